@@ -11,6 +11,6 @@ pub fed_is_answered : {F : Type 0} (calls : Calls F) (choose : F) (answer : Answ
 fed_is_answered calls choose answer at old new k = by old.stage k
   where
     by : (stage : RoundStage) → IsFedAt calls choose answer at stage old new → IsAnsweredAt answer at stage old new
-    by Asking k = k
+    by (Asking heals) k = k
     by (Healing m) k = (k.0, heal.fed_is_answered calls choose answer at m k.0 k.1, k.2)
     by (Over refused) k = k

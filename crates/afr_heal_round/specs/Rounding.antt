@@ -1,9 +1,10 @@
 -- A round of a healer, step by step.
-use Rattle.std.specs.Prelude.{ℕ, ◌≡◌, ◌<◌, ◌≤◌, Bool, true, false, Option, None, Some, if◌then◌else◌}
+use Rattle.std.specs.Prelude.{ℕ, ◌≡◌, ◌<◌, ◌≤◌, Bool, true, false, [], ◌∷◌, Option, None, Some, if◌then◌else◌}
 use Rattle.afr_base.specs.declared.ids.BrickId.{BrickId}
 use Rattle.afr_base.specs.declared.ids.Gfid.{Gfid}
 use Rattle.afr_base.specs.declared.ids.Kind.{Kind}
 use Rattle.afr_base.specs.declared.ids.Shape.{Shape}
+use Rattle.afr_base.specs.declared.ids.What.{What}
 use Rattle.afr_heal_round.specs.List.Round.{RoundProgress, next_due, with_list, without_next}
 use Rattle.afr_heal_round.specs.List.Round as round
 use Rattle.afr_heal_round.specs.declared.stage.RoundStage.{RoundStage}
@@ -29,9 +30,9 @@ pub record Rounding : Type 0 where
   pub round : RoundProgress
   pub stage : RoundStage
 
--- a round that begins asks for the index of its brick
-abbrev pub round_from : Shape → BrickId → Rounding
-round_from shape b = record { shape = shape; round = round.begun b; stage = Asking }
+-- a round that begins asks for the index of its brick, and may heal what it lists
+abbrev pub round_from : Shape → Bool → BrickId → Rounding
+round_from shape heals b = record { shape = shape; round = round.begun b; stage = Asking heals }
 
 -- ---- the next line
 -- a round fails where its index was refused
@@ -39,7 +40,7 @@ abbrev pub reply_of : Bool → Reply
 reply_of refused = if refused then Failed else Ok Done
 
 abbrev pub next_at : BrickId → RoundStage → Next
-next_at b Asking = next.Ask b Index
+next_at b (Asking heals) = next.Ask b Index
 next_at b (Healing m) = heal.next_of m
 next_at b (Over refused) = next.End (reply_of refused)
 
@@ -89,21 +90,34 @@ stage_due shape None = Over false
 abbrev pub going_on : Shape → RoundProgress → Rounding
 going_on shape r = record { shape = shape; round = without_next r; stage = stage_due shape (next_due r) }
 
--- the index was answered: its list is gone through, or it was refused
-abbrev pub stage_indexed : Shape → Answer → RoundProgress → RoundStage
-stage_indexed shape (answer.Index list) r = stage_due shape (next_due (with_list list r))
-stage_indexed shape other r = Over true
+-- a task: the heals of one item, in a round that asks for no index
+abbrev pub task_from : Shape → Gfid × What → Rounding
+task_from shape item = going_on shape (with_list (item ∷ []) (round.begun (record { 0 = 0 })))
 
-abbrev pub round_indexed : Answer → RoundProgress → RoundProgress
-round_indexed (answer.Index list) r = without_next (with_list list r)
-round_indexed other r = r
+-- a list was given: it is gone through, or the round is over
+abbrev pub stage_given : Bool → Shape → RoundProgress → RoundStage
+stage_given true shape r = stage_due shape (next_due r)
+stage_given false shape r = Over false
 
-abbrev pub indexed : Answer → Rounding → Rounding
-indexed answer m = record { shape = m.shape; round = round_indexed answer m.round; stage = stage_indexed m.shape answer m.round }
+abbrev pub round_given : Bool → RoundProgress → RoundProgress
+round_given true r = without_next r
+round_given false r = r
+
+-- the index was answered: it gave its list, or it was refused
+abbrev pub stage_indexed : Bool → Shape → Answer → RoundProgress → RoundStage
+stage_indexed heals shape (answer.Index list) r = stage_given heals shape (with_list list r)
+stage_indexed heals shape other r = Over true
+
+abbrev pub round_indexed : Bool → Answer → RoundProgress → RoundProgress
+round_indexed heals (answer.Index list) r = round_given heals (with_list list r)
+round_indexed heals other r = r
+
+abbrev pub indexed : Bool → Answer → Rounding → Rounding
+indexed heals answer m = record { shape = m.shape; round = round_indexed heals answer m.round; stage = stage_indexed heals m.shape answer m.round }
 
 -- an answer that a brick gives to the next line
 abbrev pub CanHearAt : RoundStage → Answer → Type 0
-CanHearAt Asking answer = Unit {0}
+CanHearAt (Asking heals) answer = Unit {0}
 CanHearAt (Healing m) answer = heal.CanHear (coming m) answer
 CanHearAt (Over refused) answer = ⊥
 
@@ -112,7 +126,7 @@ CanHear m answer = CanHearAt m.stage answer
 
 -- the request was answered
 abbrev pub IsFedAt : {F : Type 0} → Calls F → F → Answer → ℕ → RoundStage → Rounding → Rounding → Type 0
-IsFedAt calls choose answer at Asking old new = new ≡ indexed answer old
+IsFedAt calls choose answer at (Asking heals) old new = new ≡ indexed heals answer old
 IsFedAt calls choose answer at (Healing m) old new = (after : Heal) × heal.IsFed calls choose answer at m after × (new ≡ record old { stage = Healing after })
 IsFedAt calls choose answer at (Over refused) old new = ⊥
 
@@ -121,7 +135,7 @@ IsFed calls choose answer at old new = IsFedAt calls choose answer at old.stage 
 
 -- the same, whatever rule it was
 abbrev pub IsAnsweredAt : Answer → ℕ → RoundStage → Rounding → Rounding → Type 0
-IsAnsweredAt answer at Asking old new = new ≡ indexed answer old
+IsAnsweredAt answer at (Asking heals) old new = new ≡ indexed heals answer old
 IsAnsweredAt answer at (Healing m) old new = (after : Heal) × heal.IsAnswered answer at m after × (new ≡ record old { stage = Healing after })
 IsAnsweredAt answer at (Over refused) old new = ⊥
 

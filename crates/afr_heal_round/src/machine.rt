@@ -2,15 +2,15 @@
 ghost use Rattle.std.specs.Prelude.{◌≡◌, ◌<◌, ◌≤◌, true, IfOk, None, OnOk, OnErr, Some, option_map};
 ghost use Rattle.afr_rule.specs.Choosing.{IsRule};
 ghost use Rattle.afr_heal_round.specs.List.Round.{next_due, without_next};
-ghost use Rattle.afr_heal_round.specs.Rounding.{CanHear, CarriesNext, IsFed, IsRounding, IsStaged, begun, heal_at, healed, indexed, is_beginning, is_ending, made_ready, next_of, reply_of, round_from, round_indexed, stage_due, stage_indexed};
+ghost use Rattle.afr_heal_round.specs.Rounding.{CanHear, CarriesNext, IsFed, IsRounding, IsStaged, begun, heal_at, healed, indexed, is_beginning, is_ending, made_ready, next_of, reply_of, round_from, round_given, round_indexed, stage_due, stage_given, stage_indexed, task_from};
 
 use crate::due_list::Round;
 use crate::stage::RoundStage;
-use afr_base::{BrickId, NoMemory, Shape};
+use afr_base::{BrickId, Gfid, NoMemory, Shape, What};
 use afr_discipline::each_note_stands;
 use afr_heal_machine::HealMachine;
 use afr_lines::{Answer, Good, Next, Reply, Request};
-use afr_object::Load;
+use afr_object::{List, Load};
 use afr_rule::{Candidate, SourceRule};
 use std::alloc::Global;
 use std::marker::Model;
@@ -36,18 +36,42 @@ impl Model for RoundMachine {
 }
 
 impl RoundMachine {
-    /// A round over the index of this brick. It takes no memory.
-    pub fn new(alloc: Global, shape: Shape, brick: BrickId) -> RoundMachine
+    /// A round over the index of this brick, which heals what it lists, or is over with its list. It takes no memory.
+    pub fn new(alloc: Global, shape: Shape, heals: bool, brick: BrickId) -> RoundMachine
         requires few { shape.n ≤ 5 }
         requires within { brick.0 < shape.n }
-        ensures { result ≡ round_from shape brick }
+        ensures { result ≡ round_from shape heals brick }
     {
         RoundMachine {
             alloc,
             shape,
             round: Round::new(brick),
-            stage: RoundStage::Asking,
+            stage: RoundStage::Asking { heals },
         }
+    }
+
+    /// The heals of one object, of which another healer's round was given the list.
+    pub fn task(
+        alloc: Global,
+        shape: Shape,
+        gfid: Gfid,
+        what: What,
+    ) -> Result<RoundMachine, NoMemory>
+        requires few { shape.n ≤ 5 }
+        requires some { 0 < shape.n }
+        ensures { IfOk result (λ machine. machine ≡ task_from shape (gfid, what)) }
+    {
+        let mut list = List::new(alloc);
+        list.push((gfid, what))?;
+        let mut round = Round::new(BrickId(0));
+        round.give_list(list);
+        let stage = stage_due(alloc, shape, &mut round);
+        Ok(RoundMachine {
+            alloc,
+            shape,
+            round,
+            stage,
+        })
     }
 
     /// Takes the memory of the coming move.
@@ -66,7 +90,7 @@ impl RoundMachine {
         ensures { IfOk result (λ next. next ≡ next_of self.now) }
     {
         match &self.stage {
-            RoundStage::Asking => Ok(Next::Ask(self.round.brick(), Request::Index)),
+            RoundStage::Asking { .. } => Ok(Next::Ask(self.round.brick(), Request::Index)),
             RoundStage::Healing(heal) => heal.next(),
             RoundStage::Over { refused } => Ok(Next::End(ending(*refused))),
         }
@@ -78,7 +102,7 @@ impl RoundMachine {
         ensures none { (b : BrickId) (asked : Request) → result ≡ None → next_of self.now ≡ Next.Ask b asked → ⊥ }
     {
         match &self.stage {
-            RoundStage::Asking => {
+            RoundStage::Asking { .. } => {
                 *request = Request::Index;
                 Some(self.round.brick())
             }
@@ -112,8 +136,9 @@ impl RoundMachine {
         ensures { IsFed F.Fn rule.now answer.old at self.old self.new }
     {
         match &mut self.stage {
-            RoundStage::Asking => {
-                self.hear_index(answer);
+            RoundStage::Asking { heals } => {
+                let heals = *heals;
+                self.hear_index(heals, answer);
             }
             RoundStage::Healing(heal) => {
                 each_note_stands();
@@ -126,10 +151,10 @@ impl RoundMachine {
 
     /// The index was answered. It stands apart, so that only such an answer pays for a frame that holds a whole heal.
     #[inline(never)]
-    fn hear_index(&mut self, answer: &mut Answer)
-        ensures { self.new ≡ indexed answer.old self.old }
+    fn hear_index(&mut self, heals: bool, answer: &mut Answer)
+        ensures { self.new ≡ indexed heals answer.old self.old }
     {
-        self.stage = indexed(self.alloc, self.shape, &mut self.round, answer);
+        self.stage = indexed(self.alloc, self.shape, heals, &mut self.round, answer);
     }
 
     /// Whether bricks give this answer to the next line.
@@ -137,7 +162,7 @@ impl RoundMachine {
         ensures { result ≡ true → CanHear self.now answer.now }
     {
         match &self.stage {
-            RoundStage::Asking => true,
+            RoundStage::Asking { .. } => true,
             RoundStage::Healing(heal) => heal.can_hear(answer),
             RoundStage::Over { .. } => false,
         }
@@ -172,7 +197,7 @@ impl RoundMachine {
     {
         match &self.stage {
             RoundStage::Healing(heal) => Some(heal),
-            RoundStage::Asking | RoundStage::Over { .. } => None,
+            RoundStage::Asking { .. } | RoundStage::Over { .. } => None,
         }
     }
 
@@ -184,21 +209,41 @@ impl RoundMachine {
     }
 }
 
-/// The list of the index is gone through, or it was refused.
-fn indexed(alloc: Global, shape: Shape, round: &mut Round, answer: &mut Answer) -> RoundStage
+/// The index gave its list, or it was refused.
+fn indexed(
+    alloc: Global,
+    shape: Shape,
+    heals: bool,
+    round: &mut Round,
+    answer: &mut Answer,
+) -> RoundStage
     requires few { shape.n ≤ 5 }
     requires some { 0 < shape.n }
-    ensures stage { result ≡ stage_indexed shape answer.old round.old }
+    ensures stage { result ≡ stage_indexed heals shape answer.old round.old }
     ensures staged { IsStaged shape result }
-    ensures brick { round.new.brick ≡ round.old.brick }
-    ensures round { round.new ≡ round_indexed answer.old round.old }
+    ensures round { round.new ≡ round_indexed heals answer.old round.old }
 {
     match mem::replace(answer, Answer::Done) {
         Answer::Index(list) => {
             round.give_list(list);
-            stage_due(alloc, shape, round)
+            given(alloc, shape, heals, round)
         }
         _ => RoundStage::Over { refused: true },
+    }
+}
+
+/// The list is gone through, or the round is over.
+fn given(alloc: Global, shape: Shape, heals: bool, round: &mut Round) -> RoundStage
+    requires few { shape.n ≤ 5 }
+    requires some { 0 < shape.n }
+    ensures stage { result ≡ stage_given heals shape round.old }
+    ensures staged { IsStaged shape result }
+    ensures round { round.new ≡ round_given heals round.old }
+{
+    if heals {
+        stage_due(alloc, shape, round)
+    } else {
+        RoundStage::Over { refused: false }
     }
 }
 
@@ -208,7 +253,6 @@ fn stage_due(alloc: Global, shape: Shape, round: &mut Round) -> RoundStage
     requires some { 0 < shape.n }
     ensures stage { result ≡ stage_due shape (next_due round.old) }
     ensures staged { IsStaged shape result }
-    ensures brick { round.new.brick ≡ round.old.brick }
     ensures round { round.new ≡ without_next round.old }
 {
     match round.next_heal() {

@@ -26,7 +26,7 @@ use Rattle.afr_lines.specs.declared.request.Request.TheVariants as request
 use Rattle.afr_model.specs.Blamed.{Blames}
 use Rattle.afr_model.specs.HealReplies.{IsHealing, IsSettling, refuses_index}
 use Rattle.afr_model.specs.Healing.{heal_by, is_border}
-use Rattle.afr_model.specs.Rounds.{IsOfHeal, KeepsToRound, listed_after, object_healed}
+use Rattle.afr_model.specs.Rounds.{IsOfHeal, KeepsToIndexed, listed_after, object_healed}
 use Rattle.afr_model_moves.specs.Note.{is_done, is_granted}
 use Rattle.afr_model_moves.specs.Past.{is_gone}
 use Rattle.afr_model_moves.specs.Register.{Exact, Finish, HealLocks, HealPart, HealPres, HealUnlocks, Looks, Mends, Opening, Piece, Reads, Settles, Step, Unlocks, Untouched, WorkLocks, len_of, piece_area, whole_area}
@@ -198,7 +198,7 @@ pub record IsPlain (p : Plan) (a : ActorId) (b : BrickId) (asked : Request) (tol
   pub admits : refuses_index (Ask a b asked told took) ≡ false
   pub met : met_after asked ≡ true
   pub blames : Blames p (Ask a b asked told took) log
-  pub keeps : (k : BrickId) (w : Work) → IsOfHeal p asked w → KeepsToRound p k (Ask a b asked told took) w
+  pub keeps : (k : BrickId) (list : List (Gfid × What)) (w : Work) → IsOfHeal list asked w → KeepsToIndexed k list (Ask a b asked told took) w
   pub healed : object_healed asked ≡ Some g
   pub settles : (shape : Shape) (w : Work) → SettlesSeen shape kind b.0 asked (heal_by w) → IsHealing shape (Ask a b asked told took) w
 
@@ -209,7 +209,7 @@ plain p a b (request.Lock domain area) told took log g kind about = record {
   admits = refl;
   met = refl;
   blames = tt;
-  keeps = λ k w of. of;
+  keeps = λ k list w of. of;
   healed = ap Some about;
   settles = λ shape w s. tt;
 }
@@ -219,7 +219,7 @@ plain p a b (request.Unlock domain area) told took log g kind about = record {
   admits = refl;
   met = refl;
   blames = tt;
-  keeps = λ k w of. of;
+  keeps = λ k list w of. of;
   healed = ap Some about;
   settles = λ shape w s. tt;
 }
@@ -229,7 +229,7 @@ plain p a b (request.Look h) told took log g kind about = record {
   admits = refl;
   met = refl;
   blames = tt;
-  keeps = λ k w of. of;
+  keeps = λ k list w of. of;
   healed = ap Some about;
   settles = λ shape w s. tt;
 }
@@ -239,7 +239,7 @@ plain p a b (request.ReadBytes h at len) told took log g kind about = record {
   admits = refl;
   met = refl;
   blames = tt;
-  keeps = λ k w of. of;
+  keeps = λ k list w of. of;
   healed = ap Some about;
   settles = λ shape w s. tt;
 }
@@ -249,7 +249,7 @@ plain p a b (request.List h) told took log g kind about = record {
   admits = refl;
   met = refl;
   blames = tt;
-  keeps = λ k w of. of;
+  keeps = λ k list w of. of;
   healed = ap Some about;
   settles = λ shape w s. tt;
 }
@@ -259,7 +259,7 @@ plain p a b (request.ReadAttrs h) told took log g kind about = record {
   admits = refl;
   met = refl;
   blames = tt;
-  keeps = λ k w of. of;
+  keeps = λ k list w of. of;
   healed = ap Some about;
   settles = λ shape w s. tt;
 }
@@ -269,7 +269,7 @@ plain p a b (request.Pre h what) told took log g kind about = record {
   admits = refl;
   met = refl;
   blames = tt;
-  keeps = λ k w of. of;
+  keeps = λ k list w of. of;
   healed = ap Some about;
   settles = λ shape w s. tt;
 }
@@ -279,7 +279,7 @@ plain p a b (request.Mend repair) told took log g kind about = record {
   admits = refl;
   met = refl;
   blames = tt;
-  keeps = λ k w of. of;
+  keeps = λ k list w of. of;
   healed = ap Some about;
   settles = λ shape w s. tt;
 }
@@ -289,7 +289,7 @@ plain p a b (request.Settle h what less) told took log g kind about = record {
   admits = refl;
   met = refl;
   blames = tt;
-  keeps = λ k w of. of;
+  keeps = λ k list w of. of;
   healed = ap Some about.0;
   settles = λ shape w s. subst (λ (of : Kind). IsSettling shape of less b.0 (heal_by w)) (sym about.1) s;
 }

@@ -1,20 +1,16 @@
 -- A line of a healer is of its round, since a healer has no commands.
-use Rattle.std.proofs.Common.{◌≡◌, ◌∙◌, ℕ, ◌-◌, ◌≤◌, ◌==◌, true, List, [], Option, None, Some, sym, ap, arith, length, slice_get}
+use Rattle.std.proofs.Common.{◌≡◌, ◌∙◌, ℕ, ◌-◌, ◌≤◌, ◌==◌, true, List, [], Option, Some, sym, ap, arith, length, slice_get}
 use Rattle.std.proofs.lemmas.Bool.Decides.{nat_tests}
 use Rattle.std.proofs.lemmas.Option.{slice_get_past, unwrap_or-slice_get}
 use Rattle.std.specs.Option.{unwrap_or}
 use Rattle.afr_base.specs.declared.ids.ActorId.{ActorId}
-use Rattle.afr_base.specs.declared.ids.Gfid.{Gfid}
-use Rattle.afr_base.specs.declared.ids.What.{What}
-use Rattle.afr_lines.specs.Work.{Work, ended, work}
+use Rattle.afr_lines.specs.Work.{ended, work}
 use Rattle.afr_lines.specs.declared.line.Line.{Line}
 use Rattle.afr_model.specs.Actors.{script_of}
 use Rattle.afr_model.specs.HealReplies.{IsHealing}
 use Rattle.afr_model.specs.Replied.{IsOfTask}
-use Rattle.afr_model.specs.Rounds.{listed_by}
 use Rattle.afr_plan.specs.declared.command.Command.{Command}
 use Rattle.afr_plan.specs.declared.plan.Plan.{Plan}
-use Rattle.afr_healer.specs.Keeping.{IsListed}
 
 pub self : (n : ℕ) → (n == n) ≡ true
 self n = grind (arith, nat_tests)
@@ -30,10 +26,5 @@ no_command k c e = absurd (cc e)
 pub of_healer : (p : Plan) (a : ActorId) (line : Line) (log : List Line) → length p.clients ≤ 16 → 17 ≤ a.0 → IsHealing p.shape line (work a.0 log) → IsOfTask p a line log
 of_healer p a line log few healer k = record {
   command = λ c is. absurd (no_command (ended a.0 log) c (rw (no_script p a.0 few healer) at is));
-  round = λ of b due. k;
+  round = λ of. k;
 }
-
--- a list that is the same
-pub listed_on : (p : Plan) (list : Option (List (Gfid × What))) (old new : Work) → listed_by p new ≡ listed_by p old → IsListed p old list → IsListed p new list
-listed_on p None old new same k = same ∙ k
-listed_on p (Some list) old new same k = same ∙ k

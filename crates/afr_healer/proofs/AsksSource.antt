@@ -104,7 +104,7 @@ module _ (laws : RoundLaws) (h : Heal) (sound : IsHealing h) (b : ℕ) (asked : 
   stands : Stands after exactly
   stands =
       laws.notes_stand h.register (seen_as h.register) (move.Ask (record { 0 = b }) (record { ref_ptr = (0, 0); now = asked })) told t (laws.heal.low h sound b asked e).1 sound.heals.five small
-      (self_stands h.register sound.heals.published)
+      (self_stands h.register)
 
   same_looking : is_looking exactly.step exactly.part ≡ is_looking (seen_as after).step (seen_as after).part
   same_looking = rw (stands.step, stands.part) refl

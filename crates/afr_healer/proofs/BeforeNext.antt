@@ -29,7 +29,7 @@ use Rattle.afr_model_moves.specs.Keeps.{keeps_in}
 use Rattle.afr_model_moves.specs.Rules.{heal_area}
 use Rattle.afr_plan.specs.declared.plan.Plan.{Plan}
 use Rattle.afr_lines.specs.declared.lock.Domain.TheVariants.{Heal as HealDomain}
-use Rattle.afr_healer.specs.Keeping.{CarriesIts, CarriesRound, IsBetweenHeals, IsBetweenRounds, IsNotedHeal, RunsHeal, StageStands}
+use Rattle.afr_healer.specs.Keeping.{CarriesIts, CarriesRound, Duty, IsBetweenHeals, IsBetweenRounds, IsNotedHeal, RunsHeal, StageStands}
 use Rattle.afr_healer.specs.Laws.{CanStepNext, IsBeforeRound}
 use Rattle.afr_heal_machine.specs.Contents.{load_in, readied}
 use Rattle.afr_heal_machine.specs.Healing.{Healing as Heal, coming, line_of}
@@ -59,7 +59,7 @@ asks_same b c x y e = cc e
 lock_opens : (at : Place) (g : ℕ) (a : ActorId) (b : BrickId) (told : Told) (took : Bool) → IsBetweenHeals at → opens at (Ask a b (Lock HealDomain (heal_area g)) told took) ≡ true
 lock_opens places.Indexed g a b told took k = refl
 lock_opens places.Between g a b told took k = refl
-lock_opens Fresh g a b told took k = absurd k
+lock_opens Fresh g a b told took k = refl
 lock_opens places.Within g a b told took k = absurd k
 
 first_opens : (at : Place) (g : ℕ) (a : ActorId) (b : BrickId) (asked : Request) (told : Told) (took : Bool) → IsBetweenHeals at → Lock HealDomain (heal_area g) ≡ asked → opens at (Ask a b asked told took) ≡ true
@@ -101,7 +101,7 @@ ask_laws laws = record {
   answers = laws.servers.answers;
 }
 
-module _ (laws : RoundLaws) (p : Plan) (a : ActorId) (log : List Line) (servers : List Serving) (before : IsBeforeRound p a log servers) where
+module _ (laws : RoundLaws) (crawl : Bool) (p : Plan) (a : ActorId) (log : List Line) (servers : List Serving) (before : IsBeforeRound crawl p a log servers) where
   pub before_ask : IsBeforeAsk p a log servers
   before_ask = record { few = before.few; known = before.known; short = before.short; served = before.served; honest = before.honest; lawful = before.lawful }
 
@@ -110,9 +110,9 @@ module _ (laws : RoundLaws) (p : Plan) (a : ActorId) (log : List Line) (servers 
   is_told new after b asked register given so = record { honest = before.honest; lawful = before.lawful; short = before.short; few = before.few; may = so.may; said = so.go_on.0; full = so.full }
 
   -- ---- the index
-  pub index_next : (met : Bool) (epochs : Epochs) (shape : Shape) (b : BrickId) → shape ≡ p.shape → b.0 < shape.n → IsBetweenRounds a.0 log met → AsksNext p a log met epochs servers (CarriesAt Asking) b Index (no_lines p.shape)
-  index_next true epochs shape b same low k = absurd (cc k.unmet)
-  index_next false epochs shape b same low k = record {
+  pub index_next : (heals met : Bool) (epochs : Epochs) (shape : Shape) (b : BrickId) → shape ≡ p.shape → b.0 < shape.n → IsBetweenRounds a.0 log met → AsksNext p a log met epochs servers (CarriesAt (Asking heals)) b Index (no_lines p.shape)
+  index_next heals true epochs shape b same low k = absurd (cc k.unmet)
+  index_next heals false epochs shape b same low k = record {
     five = record { looked = refl; seen = refl; reads = refl };
     opened = λ told took. first told took;
     in_force = laws.next.anew p.shape a.0 log (asking a b Index) before.few (first _ _);
@@ -129,8 +129,8 @@ module _ (laws : RoundLaws) (p : Plan) (a : ActorId) (log : List Line) (servers 
       here = subst (λ (shape : Shape). b.0 < shape.n) same low
 
   -- ---- a heal
-  module _ (epochs : Epochs) (h : Heal) (b : BrickId) (asked : Request) (e : coming h ≡ Asks b.0 asked) where
-    pub heal_next : (met : Bool) → RunsHeal p a.0 log met epochs servers h → h.contents ≡ readied h.contents → AsksNext p a log met epochs servers (CarriesAt (Healing h)) b asked h.register
+  module _ (duty : Duty) (epochs : Epochs) (h : Heal) (b : BrickId) (asked : Request) (e : coming h ≡ Asks b.0 asked) where
+    pub heal_next : (met : Bool) → RunsHeal duty p a.0 log met epochs servers h → h.contents ≡ readied h.contents → AsksNext p a log met epochs servers (CarriesAt (Healing h)) b asked h.register
     heal_next met k merged = record {
       five = laws.heal.five h k.sound;
       opened = λ told took. opened met told took k.noted;
@@ -159,38 +159,38 @@ module _ (laws : RoundLaws) (p : Plan) (a : ActorId) (log : List Line) (servers 
   AsksAt met epochs stage (next.Ask b asked) = (r : Register) × AsksNext p a log met epochs servers (CarriesAt stage) b asked r
   AsksAt met epochs stage other = Unit {0}
 
-  pub asks_next : (met : Bool) (epochs : Epochs) (m : Rounding) (c : CarriesRound p a.0 log met epochs servers m) → m ≡ made_ready m → (b : BrickId) (asked : Request) → next_of m ≡ next.Ask b asked
+  pub asks_next : (met : Bool) (epochs : Epochs) (m : Rounding) (c : CarriesRound crawl p a.0 log met epochs servers m) → m ≡ made_ready m → (b : BrickId) (asked : Request) → next_of m ≡ next.Ask b asked
       → (r : Register) × AsksNext p a log met epochs servers (CarriesAt m.stage) b asked r
   asks_next met epochs m c ready b asked e = by m.stage c.stage (ap (λ (m : Rounding). m.stage) ready) e
     where
-      by : (stage : RoundStage) → StageStands p a.0 log met epochs servers m.round stage → stage ≡ ready_at stage → next_at m.round.brick stage ≡ next.Ask b asked → (r : Register) × AsksNext p a log met epochs servers (CarriesAt stage) b asked r
-      by Asking k ready e = subst (AsksAt met epochs Asking) e (no_lines p.shape, index_next met epochs m.shape m.round.brick c.shape c.sound.within k.0)
-      by (Healing h) k ready e = (h.register, heal_next epochs h b asked (asks_of h (coming h) b asked e) met k.0 (ready_contents h ready))
+      by : (stage : RoundStage) → StageStands c.duty p a.0 log met epochs servers m.round stage → stage ≡ ready_at stage → next_at m.round.brick stage ≡ next.Ask b asked → (r : Register) × AsksNext p a log met epochs servers (CarriesAt stage) b asked r
+      by (Asking heals) k ready e = subst (AsksAt met epochs (Asking heals)) e (no_lines p.shape, index_next heals met epochs m.shape m.round.brick c.shape c.sound.within k.0)
+      by (Healing h) k ready e = (h.register, heal_next c.duty epochs h b asked (asks_of h (coming h) b asked e) met k.0 (ready_contents h ready))
       by (Over refused) k ready e = absurd (cc e)
 
   -- what a round hears
-  hears : (met : Bool) (epochs : Epochs) (m : Rounding) (c : CarriesRound p a.0 log met epochs servers m) (b : BrickId) (asked : Request) → next_of m ≡ next.Ask b asked → (given : Served)
+  hears : (met : Bool) (epochs : Epochs) (m : Rounding) (c : CarriesRound crawl p a.0 log met epochs servers m) (b : BrickId) (asked : Request) → next_of m ≡ next.Ask b asked → (given : Served)
       → IsHeardInHeal p log a b asked given.answer given.took → CanHear m given.answer
   hears met epochs m c b asked e given told = by m.stage c.stage e
     where
-      by : (stage : RoundStage) → StageStands p a.0 log met epochs servers m.round stage → next_at m.round.brick stage ≡ next.Ask b asked → CanHearAt stage given.answer
-      by Asking k e = tt
+      by : (stage : RoundStage) → StageStands c.duty p a.0 log met epochs servers m.round stage → next_at m.round.brick stage ≡ next.Ask b asked → CanHearAt stage given.answer
+      by (Asking heals) k e = tt
       by (Healing h) k e = (laws.hearing.hears p h log a b.0 asked given.answer given.took k.0.sound k.0.shape k.0.tells (asks_of h (coming h) b asked e) told).0
       by (Over refused) k e = absurd (cc e)
 
 -- what a healer's next line needs is there
 pub can_step_next : RoundLaws → CanStepNext
-can_step_next laws p a log servers x before acting ready m is = record {
+can_step_next laws crawl p a log servers x before acting ready m is = record {
   known = before.known;
   room = λ b s at. (laws.servers.needs.room p log b servers before.served before.short s at).1 a before.known;
-  asks = λ b asked load e fits carries. can_ask (ask_laws laws) p a log servers (before_ask laws p a log servers before) x.visit.met x.visit.epochs (CarriesAt m.stage) b asked (asks b asked e).0 (asks b asked e).1 fits load carries;
+  asks = λ b asked load e fits carries. can_ask (ask_laws laws) p a log servers (before_ask laws crawl p a log servers before) x.visit.met x.visit.epochs (CarriesAt m.stage) b asked (asks b asked e).0 (asks b asked e).1 fits load carries;
   hears = λ b asked load new epochs given e fits carries served.
-      let so = asked_so (ask_laws laws) p a log servers (before_ask laws p a log servers before) x.visit.met x.visit.epochs (CarriesAt m.stage) b asked (asks b asked e).0 (asks b asked e).1 fits load new epochs given carries served in
-      hears laws p a log servers before x.visit.met x.visit.epochs m c b asked e given (is_told laws p a log servers before new epochs b asked (asks b asked e).0 given so);
+      let so = asked_so (ask_laws laws) p a log servers (before_ask laws crawl p a log servers before) x.visit.met x.visit.epochs (CarriesAt m.stage) b asked (asks b asked e).0 (asks b asked e).1 fits load new epochs given carries served in
+      hears laws crawl p a log servers before x.visit.met x.visit.epochs m c b asked e given (is_told laws crawl p a log servers before new epochs b asked (asks b asked e).0 given so);
 }
   where
-    c : CarriesRound p a.0 log x.visit.met x.visit.epochs servers m
-    c = subst (CarriesIts p a.0 log x.visit.met x.visit.epochs servers) is acting.carries
+    c : CarriesRound crawl p a.0 log x.visit.met x.visit.epochs servers m
+    c = subst (CarriesIts crawl p a.0 log x.visit.met x.visit.epochs servers) is acting.carries
 
     asks : (b : BrickId) (asked : Request) → next_of m ≡ next.Ask b asked → (r : Register) × AsksNext p a log x.visit.met x.visit.epochs servers (CarriesAt m.stage) b asked r
-    asks b asked e = asks_next laws p a log servers before x.visit.met x.visit.epochs m c (ready m is) b asked e
+    asks b asked e = asks_next laws crawl p a log servers before x.visit.met x.visit.epochs m c (ready m is) b asked e

@@ -5,5 +5,5 @@ use Rattle.afr_healer.proofs.WritesLine.{line_keeps}
 use Rattle.afr_healer.specs.Laws.{LineKeepsRound}
 
 pub every_line : RoundLaws → LineKeepsRound
-every_line laws p a log servers new x y line before acting ready s =
-    line_keeps laws p a log servers before x y new line acting s (λ carries b asked e k. asks_keep laws p a log servers new x y line before acting ready s.round s.present b asked e k)
+every_line laws crawl p a log servers new x y line before acting ready s =
+    line_keeps laws crawl p a log servers before x y new line acting s (λ carries b asked e k. asks_keep laws crawl p a log servers new x y line before acting ready s.round s.present b asked e k)

@@ -1,4 +1,5 @@
 mod Gathered
+pub mod Duties
 mod AsksAbout
 mod AsksGiven
 pub mod BeforeAsks

@@ -24,7 +24,7 @@ no_begin m change e = by_stage m.stage e
     by_coming h Ends e = absurd (cc e)
 
     by_stage : (stage : RoundStage) → next_at m.round.brick stage ≡ next.Begin change → ⊥
-    by_stage Asking e = absurd (cc e)
+    by_stage (Asking heals) e = absurd (cc e)
     by_stage (Healing h) e = by_coming h (coming h) e
     by_stage (Over refused) e = absurd (cc e)
 

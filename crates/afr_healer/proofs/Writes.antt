@@ -1,31 +1,27 @@
 -- A HealBegin or HealEnd line of a healer: it is lawful and the plan's, and the healer's round stands for it.
-use Rattle.std.proofs.Common.{◌≡◌, ◌∙◌, ◌⊎◌, ℕ, ◌<◌, ◌≤◌, ◌==◌, Bool, true, false, List, ◌∷◌, Option, None, Some, refl, sym, ap, arith, subst, length, inl, inr}
+use Rattle.std.proofs.Common.{◌≡◌, ◌∙◌, ◌⊎◌, ℕ, ◌<◌, ◌≤◌, ◌==◌, Bool, true, false, List, ◌∷◌, refl, sym, ap, arith, subst, length, inl, inr}
 use Rattle.std.proofs.lemmas.Bool.Decides.{nat_tests}
 use Rattle.afr_law.proofs.Model.Tasks.{no_script}
 use Rattle.afr_base.specs.declared.ids.ActorId.{ActorId}
-use Rattle.afr_base.specs.declared.ids.Gfid.{Gfid}
 use Rattle.afr_base.specs.declared.ids.Shape.{Shape}
-use Rattle.afr_base.specs.declared.ids.What.{What}
 use Rattle.afr_discipline.specs.Notes.{noted_part}
 use Rattle.afr_discipline.specs.Stands.{no_lines}
 use Rattle.afr_discipline.specs.declared.register.Move.TheVariants as move
 use Rattle.afr_discipline.specs.declared.register.Register.{Register}
 use Rattle.afr_heal.specs.Carried.{MovesOf}
 use Rattle.afr_heal.specs.Engine.{Begins, Ends, NextOfHeal}
-use Rattle.afr_heal_round.specs.Rounding.{Rounding, going_on}
+use Rattle.afr_heal_round.specs.Rounding.{Rounding, begun_at, going_on}
 use Rattle.afr_heal_round.specs.Rounding as rounding
 use Rattle.afr_heal_round.specs.declared.stage.RoundStage.{RoundStage}
 use Rattle.afr_heal_round.specs.declared.stage.RoundStage.TheVariants.{Healing}
 use Rattle.afr_lines.specs.Places.{Between, Place, Within, opens, place_of}
-use Rattle.afr_lines.specs.Work.{Work, work}
+use Rattle.afr_lines.specs.Work.{work}
 use Rattle.afr_lines.specs.declared.line.Line.{Line}
 use Rattle.afr_lines.specs.declared.line.Line.TheVariants.{HealBegin, HealEnd}
-use Rattle.afr_model.specs.Following.{ToRound}
 use Rattle.afr_model.specs.HealReplies.{IsHealAnswered}
 use Rattle.afr_model.specs.HealReplies as model
 use Rattle.afr_model.specs.Healing.{heal_by}
 use Rattle.afr_model.specs.Replied.{IsOfTask}
-use Rattle.afr_model.specs.Rounds.{listed_by}
 use Rattle.afr_model_moves.specs.Ranges.{InRange}
 use Rattle.afr_law_next.specs.Healed.{AllowsMove}
 use Rattle.afr_law_next.specs.Standing.{ComesNext}
@@ -33,7 +29,8 @@ use Rattle.afr_plan.specs.declared.plan.Plan.{Plan}
 use Rattle.afr_healer.proofs.Gathered.{RoundLaws}
 use Rattle.afr_healer.proofs.WritesOn.{IsAtBorder, goes_on}
 use Rattle.afr_healer.specs.Acting.{IsBegun, IsHealed}
-use Rattle.afr_healer.specs.Keeping.{CarriesRound, IsBetweenHeals, IsHealer, IsListed, IsNotedHeal, RunsHeal, StageStands}
+use Rattle.afr_healer.proofs.Duties.{begun_more, due_kept, duty_more, keeps_duty, listed_kept}
+use Rattle.afr_healer.specs.Keeping.{CarriesRound, IsAfterHeals, IsHealer, IsNotedHeal, RunsHeal, StageStands}
 use Rattle.afr_healer.specs.Laws.{Begins as BeginsPart, Heals, IsBeforeRound, RoundKeeps}
 use Rattle.afr_healer.specs.declared.healer.Healer.{Healer}
 use Rattle.afr_heal_machine.specs.Healing.{Healing as Heal, coming}
@@ -55,24 +52,19 @@ or_right {A} {B} other (inr k) = k
 pub of_healer : (p : Plan) (a : ActorId) (line : Line) (log : List Line) → length p.clients ≤ 16 → 17 ≤ a.0 → model.IsHealing p.shape line (work a.0 log) → IsOfTask p a line log
 of_healer p a line log clients healer healing = record {
   command = λ c is. absurd (no_script p a.0 _ c clients healer is);
-  round = λ is b due. healing;
+  round = λ is. healing;
 }
 
--- the list stays where a line gives none
-pub listed_same : (p : Plan) (v w : Work) (list : Option (List (Gfid × What))) → listed_by p v ≡ listed_by p w → IsListed p w list → IsListed p v list
-listed_same p v w None e k = e ∙ k
-listed_same p v w (Some list) e k = e ∙ k
-
-module _ (laws : RoundLaws) (p : Plan) (a : ActorId) (log : List Line) (servers : List Serving) (before : IsBeforeRound p a log servers) where
+module _ (laws : RoundLaws) (crawl : Bool) (p : Plan) (a : ActorId) (log : List Line) (servers : List Serving) (before : IsBeforeRound crawl p a log servers) where
   -- a line that is no request, and opens no session, leaves the servers as they are
   pub kept_served : (line : Line) (new : List Serving) → AreServed p (line ∷ log) servers → new ≡ servers → AreServed p (line ∷ log) new
   kept_served line new k same = subst (AreServed p (line ∷ log)) (sym same) k
 
-  module _ (x y : Healer) (new : List Serving) (written : Line) (m : Rounding) (acting : IsHealer p log a.0 servers x) (carries : CarriesRound p a.0 log x.visit.met x.visit.epochs servers m) (h : Heal) (at_heal : m.stage ≡ Healing h) where
-    stands : StageStands p a.0 log x.visit.met x.visit.epochs servers m.round (Healing h)
-    stands = subst (λ (stage : RoundStage). StageStands p a.0 log x.visit.met x.visit.epochs servers m.round stage) at_heal carries.stage
+  module _ (x y : Healer) (new : List Serving) (written : Line) (m : Rounding) (acting : IsHealer crawl p log a.0 servers x) (carries : CarriesRound crawl p a.0 log x.visit.met x.visit.epochs servers m) (h : Heal) (at_heal : m.stage ≡ Healing h) where
+    stands : StageStands carries.duty p a.0 log x.visit.met x.visit.epochs servers m.round (Healing h)
+    stands = subst (λ (stage : RoundStage). StageStands carries.duty p a.0 log x.visit.met x.visit.epochs servers m.round stage) at_heal carries.stage
 
-    runs : RunsHeal p a.0 log x.visit.met x.visit.epochs servers h
+    runs : RunsHeal carries.duty p a.0 log x.visit.met x.visit.epochs servers h
     runs = stands.0
 
     -- ---- the register within the heal
@@ -108,38 +100,39 @@ module _ (laws : RoundLaws) (p : Plan) (a : ActorId) (log : List Line) (servers 
       comes : ComesNext p a begin_line log (noted_part h.register (length log) h.kind)
       comes = laws.next.heal_begins p log a h.gfid h.kind h.register before.few (laws.heal.five h runs.sound) (in_force begin_inside begin_line) begin_allowed (subst InRange s.is_line s.fits)
 
-      begin_runs : RunsHeal p a.0 (begin_line ∷ log) x.visit.met x.visit.epochs new (heal.begun (length log) h)
+      begin_runs : RunsHeal carries.duty p a.0 (begin_line ∷ log) x.visit.met x.visit.epochs new (heal.begun (length log) h)
       begin_runs = record {
         sound = laws.heal.begun_stays h (length log) runs.sound e;
         shape = comes.stand.own.shape_is;
         noted = noted_more x.visit.met begin_line (noted_part h.register (length log) h.kind) (is_noted begin_inside).0 (rw (self a.0, (is_noted begin_inside).1) refl) comes.stand.own;
         sessions = rw s.servers runs.sessions;
-        due = rw (self a.0) runs.due;
+        due = due_kept carries.duty p (work a.0 (begin_line ∷ log)) (work a.0 log) (rw (self a.0) refl) (rw (self a.0) refl) ∙ runs.due;
         on = runs.on;
         tells = rw (self a.0) (laws.telling.begun h.register h.source.0 h.gfid h.kind h.outcome (heal_by (work a.0 log)) a (length log) log runs.sound.heals e runs.tells);
         holds = laws.hearing.begun p h log a runs.sound e runs.holds;
         unrefused = rw (self a.0) runs.unrefused;
       }
 
-      begin_carries : CarriesRound p a.0 (begin_line ∷ log) x.visit.met x.visit.epochs new (rounding.begun (length log) m)
+      begin_carries : CarriesRound crawl p a.0 (begin_line ∷ log) x.visit.met x.visit.epochs new (rounding.begun (length log) m)
       begin_carries = record {
-        present = carries.present;
+        duty = carries.duty;
+        present = duty_more crawl p a.0 log before.healer m.round.brick carries.duty begin_line (rw (self a.0) refl) refl carries.present (λ item keeps. keeps) runs.due;
         shape = carries.shape;
         sound = record { few = carries.sound.few; within = carries.sound.within; staged = rw at_heal (begin_runs.sound, begin_runs.shape ∙ sym carries.shape) };
-        begun = rw (at_heal, self a.0) tt;
-        stage = rw at_heal (begin_runs, listed_same p (work a.0 (begin_line ∷ log)) (work a.0 log) m.round.list (rw (self a.0) refl) stands.1, rw (self a.0) stands.2);
+        begun = rw (self a.0) (begun_more carries.duty (begun_at (length log) m.stage) (begin_line, log) (work a.0 log));
+        stage = rw at_heal (begin_runs, listed_kept carries.duty p (work a.0 (begin_line ∷ log)) (work a.0 log) m.round.list (rw (self a.0) refl) stands.1, rw (self a.0) stands.2);
       }
 
-      pub heal_begin_keeps : RoundKeeps p a log written y servers new
-      heal_begin_keeps = subst (λ (l : Line). RoundKeeps p a log l y servers new) (sym s.is_line) (record {
+      pub heal_begin_keeps : RoundKeeps crawl p a log written y servers new
+      heal_begin_keeps = subst (λ (l : Line). RoundKeeps crawl p a log l y servers new) (sym s.is_line) (record {
         honest = tt;
         lawful = comes.lawful before.lawful;
         served = kept_served begin_line new (laws.servers.written p log begin_line a.0 servers before.few before.served (λ b. refl) (λ z. refl) (no_opening begin_inside begin_line)) s.servers;
-        keeps = ToRound before.healer m.round.brick carries.present runs.due;
+        keeps = keeps_duty crawl p a.0 log before.healer m.round.brick carries.duty begin_line carries.present (λ list keeps. keeps) (λ item of keeps. keeps) runs.due;
         replied = of_healer p a begin_line log before.clients before.healer tt;
         blamed = tt;
         written = BeginsPart h.gfid h.kind;
-        acting = subst (λ (z : Healer). IsHealer p (begin_line ∷ log) a.0 new z) (sym s.becomes) (record { ended_is = acting.ended_is; killed_is = acting.killed_is; carries = begin_carries });
+        acting = subst (λ (z : Healer). IsHealer crawl p (begin_line ∷ log) a.0 new z) (sym s.becomes) (record { ended_is = acting.ended_is; killed_is = acting.killed_is; carries = begin_carries });
         stands = comes.stand.others;
         found = λ c epochs apart found. rw s.servers found;
       })
@@ -162,36 +155,36 @@ module _ (laws : RoundLaws) (p : Plan) (a : ActorId) (log : List Line) (servers 
       answered = subst (λ (shape : Shape). IsHealAnswered shape h.gfid h.kind (heal_by (work a.0 log)) (reply_of h.outcome h.register.seen)) runs.shape
           (laws.telling.ends h.register h.source.0 h.gfid h.kind h.outcome (heal_by (work a.0 log)) runs.sound.heals runs.tells e)
 
-      border : IsAtBorder p a.0 (end_line ∷ log) m.round.brick m.round
+      border : IsAtBorder crawl carries.duty p a.0 (end_line ∷ log) m.round.brick m.round
       border = record {
         brick_is = refl;
-        present = carries.present;
+        present = duty_more crawl p a.0 log before.healer m.round.brick carries.duty end_line (rw (self a.0) refl) refl carries.present (λ item keeps. keeps) runs.due;
         within = subst (λ (shape : Shape). m.round.brick.0 < shape.n) carries.shape carries.sound.within;
         first = (end_line, log);
         older = work a.0 log;
         begun = rw (self a.0) refl;
-        place = subst IsBetweenHeals (sym ends.1) tt;
+        place = subst IsAfterHeals (sym ends.1) tt;
         stood = subst (λ (shape : Shape). Stood p.shape a.0 (end_line ∷ log) (no_lines shape)) runs.shape ends.0.stand.own;
         no_heal = rw (self a.0) refl;
-        listed = listed_same p (work a.0 (end_line ∷ log)) (work a.0 log) m.round.list (rw (self a.0) refl) stands.1;
+        listed = listed_kept carries.duty p (work a.0 (end_line ∷ log)) (work a.0 log) m.round.list (rw (self a.0) refl) stands.1;
         given = rw (self a.0) stands.2;
         unrefused = rw (self a.0) runs.unrefused;
       }
 
-      end_carries : CarriesRound p a.0 (end_line ∷ log) false x.visit.epochs new (rounding.healed m)
-      end_carries = subst (λ (shape : Shape). CarriesRound p a.0 (end_line ∷ log) false x.visit.epochs new (going_on shape m.round)) (sym carries.shape)
-          (goes_on laws p a.0 (end_line ∷ log) x.visit.epochs new before.few before.some m.round.brick m.round border)
+      end_carries : CarriesRound crawl p a.0 (end_line ∷ log) false x.visit.epochs new (rounding.healed m)
+      end_carries = subst (λ (shape : Shape). CarriesRound crawl p a.0 (end_line ∷ log) false x.visit.epochs new (going_on shape m.round)) (sym carries.shape)
+          (goes_on laws crawl carries.duty p a.0 (end_line ∷ log) x.visit.epochs new before.few before.some m.round.brick m.round border)
 
-      pub heal_end_keeps : RoundKeeps p a log written y servers new
-      heal_end_keeps = subst (λ (l : Line). RoundKeeps p a log l y servers new) (sym s.is_line) (record {
+      pub heal_end_keeps : RoundKeeps crawl p a log written y servers new
+      heal_end_keeps = subst (λ (l : Line). RoundKeeps crawl p a log l y servers new) (sym s.is_line) (record {
         honest = tt;
         lawful = ends.0.lawful before.lawful;
         served = kept_served end_line new (laws.servers.written p log end_line a.0 servers before.few before.served (λ b. refl) (λ z. refl) (no_opening end_inside end_line)) s.servers;
-        keeps = ToRound before.healer m.round.brick carries.present runs.due;
+        keeps = keeps_duty crawl p a.0 log before.healer m.round.brick carries.duty end_line carries.present (λ list keeps. keeps) (λ item of keeps. keeps) runs.due;
         replied = of_healer p a end_line log before.clients before.healer answered;
         blamed = tt;
         written = Heals h.gfid h.kind (reply_of h.outcome h.register.seen);
-        acting = subst (λ (z : Healer). IsHealer p (end_line ∷ log) a.0 new z) (sym s.becomes) (record { ended_is = acting.ended_is; killed_is = acting.killed_is; carries = end_carries });
+        acting = subst (λ (z : Healer). IsHealer crawl p (end_line ∷ log) a.0 new z) (sym s.becomes) (record { ended_is = acting.ended_is; killed_is = acting.killed_is; carries = end_carries });
         stands = ends.0.stand.others;
         found = λ c epochs apart found. rw s.servers found;
       })

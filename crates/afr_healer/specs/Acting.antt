@@ -42,13 +42,13 @@ pub record Adds (IsSo : Line → Type 0) (old new : List Line) : Type 0 where
 
 -- ---- a round begins
 -- the present round, or one that begins
-abbrev pub round_or : Shape → BrickId → Option Rounding → Rounding
-round_or shape b None = round_from shape b
-round_or shape b (Some m) = m
+abbrev pub round_or : Shape → Bool → BrickId → Option Rounding → Rounding
+round_or shape heals b None = round_from shape heals b
+round_or shape heals b (Some m) = m
 
 -- a healer has a round, and the memory of its coming move
-abbrev pub Readies : Shape → BrickId → Healer → Healer → Type 0
-Readies shape b x z = z ≡ record x { round = Some (made_ready (round_or shape b x.round)) }
+abbrev pub Readies : Shape → Bool → BrickId → Healer → Healer → Type 0
+Readies shape heals b x z = z ≡ record x { round = Some (made_ready (round_or shape heals b x.round)) }
 
 -- ---- what the bricks need
 -- what a healer's next line needs: of the bricks, and of what they may answer

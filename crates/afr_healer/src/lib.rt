@@ -7,4 +7,4 @@ mod step;
 
 pub use healer::Healer;
 pub use laws::a_healer_keeps_its_round;
-pub use step::{ready_round, step_round};
+pub use step::{begin_task, ready_round, step_round};

@@ -1,6 +1,6 @@
 //! One line of a healer.
 ghost use Rattle.std.specs.Prelude.{◌≡◌, ◌<◌, ◌≤◌, ◌^◌, ◌+◌, ◌-◌, ◌++◌, ◌∷◌, [], List, IfOk, None, OnOk, OnErr, Some, is_some, true};
-ghost use Rattle.afr_heal_round.specs.Rounding.{CanHear, IsFed, next_of};
+ghost use Rattle.afr_heal_round.specs.Rounding.{CanHear, IsFed, next_of, task_from};
 ghost use Rattle.afr_healer.specs.Acting.{Adds, CanStep, CanStepWith, IsAsked, IsBegun, IsEnded, IsHealed, Readies, Stepped, WrittenBy, met_after, written_on};
 ghost use Rattle.afr_healer.specs.declared.healer.Healer.{Healer};
 ghost use Rattle.afr_rule.specs.Choosing.{IsRule};
@@ -8,35 +8,54 @@ ghost use Rattle.afr_server.specs.NextLine.{told_line};
 ghost use Rattle.afr_server.specs.Serving.{Serving};
 
 use crate::healer::Healer;
-use afr_base::{ActorId, BrickId, Gfid, Kind, NoMemory, Shape};
+use afr_base::{ActorId, BrickId, Gfid, Kind, NoMemory, Shape, What};
 use afr_heal_round::RoundMachine;
 use afr_law_fits::{fits_its_types, request_fits_its_types};
-use afr_lines::{HealReply, Line, Next, Reply, Request};
+use afr_lines::{Answer, HealReply, Line, Next, Reply, Request};
 use afr_log::Log;
 use afr_rule::{Candidate, SourceRule};
 use afr_server::Served;
 use afr_servers::{Servers, Visit};
 use std::alloc::Global;
 
-/// A healer has the machine of its present round, which goes over this brick's index, and the memory of its coming move.
+/// A healer has the machine of its present work, and the memory of its coming move. Where it is at nothing a round begins over
+/// this brick's index, which heals what it lists, or is over with its list.
 pub fn ready_round(
     alloc: Global,
     shape: Shape,
+    heals: bool,
     brick: BrickId,
     healer: &mut Healer,
 ) -> Result<(), NoMemory>
     requires few { shape.n ≤ 5 }
-    requires within { brick.0 < shape.n }
-    ensures ok { OnOk result (Readies shape brick healer.old healer.new) }
+    requires within { healer.old.round ≡ None → brick.0 < shape.n }
+    ensures ok { OnOk result (Readies shape heals brick healer.old healer.new) }
     ensures err { OnErr result (healer.new ≡ healer.old) }
 {
     match &mut healer.round {
         Some(round) => round.ready(),
         None => {
-            healer.round = Some(RoundMachine::new(alloc, shape, brick));
+            healer.round = Some(RoundMachine::new(alloc, shape, heals, brick));
             Ok(())
         }
     }
+}
+
+/// A healer is given the task of one object.
+pub fn begin_task(
+    alloc: Global,
+    shape: Shape,
+    gfid: Gfid,
+    what: What,
+    healer: &mut Healer,
+) -> Result<(), NoMemory>
+    requires few { shape.n ≤ 5 }
+    requires some { 0 < shape.n }
+    ensures ok { OnOk result (healer.new ≡ record healer.old { round = Some (task_from shape (gfid, what)) }) }
+    ensures err { OnErr result (healer.new ≡ healer.old) }
+{
+    healer.round = Some(RoundMachine::task(alloc, shape, gfid, what)?);
+    Ok(())
 }
 
 /// One line of a healer whose round has begun, at the end of a log that has room for it. Its memory is taken before anything
@@ -164,16 +183,15 @@ fn asks<F: Fn(&[Candidate]) -> usize>(
 {
     request_fits_its_types(request);
     let load = round.load();
-    // The answer is told and heard where it lies: it is large, and neither `?` nor a branch is to move it.
-    let mut asked = visit.ask(a, brick, request, load, servers);
-    match &mut asked {
-        Ok(given) => {
-            tells(round, a, brick, request, given, position, log, rule);
-            visit.met = stays_met(request);
-            Ok(())
-        }
-        Err(_) => Err(NoMemory),
-    }
+    // The answer is told and heard where it lies: it is large, and is not to be moved.
+    let mut given = Served {
+        answer: Answer::Done,
+        took: false,
+    };
+    visit.ask(a, brick, request, load, servers, &mut given)?;
+    tells(round, a, brick, request, &mut given, position, log, rule);
+    visit.met = stays_met(request);
+    Ok(())
 }
 
 #[inline(never)]

@@ -76,7 +76,7 @@ module _ (stages : StageTells) (notes : NotesStand) (shapes : ShapesKept) where
   next_tells : (pick : (ℕ → Bool) → ℕ) (p : Register) (s : ℕ) (g : Gfid) (kind : Kind) (o : HealOutcome) (w : Work) (next : NextOfHeal) → PicksOne p.shape.n pick → Heals p s g kind → HealTells p s g kind o w → next_by p s g kind ≡ next
       → TellsNext pick p.shape (seen_as p) p.seen p.looked s g kind o w next
   next_tells pick p s g kind o w next picks k tells e = subst (TellsNext pick p.shape (seen_as p) p.seen p.looked s g kind o w) e
-      (stages pick p.shape (seen_as p) p.seen p.looked s g kind o w k.some k.few picks k.standing (shown_noted p (seen_as p) (self_stands p k.published) k.five) tells)
+      (stages pick p.shape (seen_as p) p.seen p.looked s g kind o w k.some k.few picks k.standing (shown_noted p (seen_as p) (self_stands p) k.five) tells)
 
   module _ (pick : (ℕ → Bool) → ℕ) (p : Register) (s : ℕ) (g : Gfid) (kind : Kind) (o : HealOutcome) (w : Work) (a : ActorId) (b t : ℕ) (request : Request) (told : Told) (took : Bool) (log : List Line)
       (picks : PicksOne p.shape.n pick) (k : Heals p s g kind) (five : HasFive (noted_ask p t b request told)) (next : next_by p s g kind ≡ Ask b request) (fit : fits request told ≡ true) (whole : IsWholeTold told) (tells : HealTells p s g kind o w) where
@@ -143,7 +143,7 @@ module _ (stages : StageTells) (notes : NotesStand) (shapes : ShapesKept) where
       w1 = (line.HealBegin a g kind, log) ∷ w
 
       there : Stands new q
-      there = notes p (seen_as p) (move.HealBegin g kind) as_told.Done t k.few k.five tt (self_stands p k.published)
+      there = notes p (seen_as p) (move.HealBegin g kind) as_told.Done t k.few k.five tt (self_stands p)
 
       by_exact : Tells p.shape q p.seen no_looks s g kind o w1
       by_exact = next_tells (pick_of p.shape.n) p s g kind o w Begins (lowest_picks p.shape.n) k tells next t a log

@@ -88,7 +88,7 @@ looks_kept p s g kind t b request told k next = by k.standing
 pub stands_noted : NotesStand → (p : Register) (s : ℕ) (g : Gfid) (kind : Kind) (t b : ℕ) (request : Request) (told : Told) → Heals p s g kind → next_by p s g kind ≡ Ask b request
     → Stands (noted_ask p t b request told) (asked_for p.shape.n (keeps_in p.shape) (seen_as p) t b request told)
 stands_noted notes p s g kind t b request told k next =
-    notes p (seen_as p) (move.Ask (record { 0 = b }) (record { ref_ptr = (0, 0); now = request })) told t k.few k.five (small b p.shape.n low k.few) (self_stands p k.published)
+    notes p (seen_as p) (move.Ask (record { 0 = b }) (record { ref_ptr = (0, 0); now = request })) told t k.few k.five (small b p.shape.n low k.few) (self_stands p)
   where
     asks : asks_well p.shape.n (keeps_in p.shape) (seen_as p) b request ≡ true
     asks = subst (λ (next : NextOfHeal). allows_next p.shape.n (keeps_in p.shape) (seen_as p) g kind next ≡ true) next (heal_next_allowed p.shape.n (keeps_in p.shape) (seen_as p) s g kind k.some k.few k.standing)

@@ -1,5 +1,5 @@
 -- How an object and kind stand after some lines of a round: unchanged so far, or in a heal that goes on.
-use Rattle.std.proofs.Common.{Bool, ap, false, inl, inr, refl, subst, sym, true, true≢false, ℕ, ◌∙◌, ◌≡◌, ◌⊎◌, [], ◌∷◌}
+use Rattle.std.proofs.Common.{ap, false, inl, inr, refl, subst, sym, Bool, true, true≢false, ℕ, ◌∙◌, ◌≡◌, ◌⊎◌, [], ◌∷◌}
 use Rattle.std.specs.Prelude.{List as Seq, None, Option, Some, if◌then◌else◌, slice_get}
 use Rattle.std.proofs.lemmas.Bool.{eqb-true}
 use Rattle.afr_base.specs.Bricks.{below}
@@ -19,7 +19,7 @@ use Rattle.afr_lines.specs.declared.request.Request.TheVariants.{Apply, Index, L
 use Rattle.afr_plan.specs.declared.command.Command.{Command}
 use Rattle.afr_plan.specs.declared.plan.Plan.{Plan}
 use Rattle.afr_model.specs.Actors.{script_of}
-use Rattle.afr_model.specs.Following.{IsDue, KeepsToTask, ToCommand, ToRound}
+use Rattle.afr_model.specs.Following.{IsDue, KeepsToTask, ToCommand, ToCrawl, ToItem, ToRound}
 use Rattle.afr_model.specs.Healing.{heal_by, is_border}
 use Rattle.afr_model.specs.Rounds.{KeepsToRound, heal_due}
 use Rattle.afr_model.specs.Splits.{IsSplit}
@@ -165,9 +165,11 @@ module _ (p : Plan) (a : ℕ) (was : Seq Line) (g : Gfid) (kind : Kind) where
       go (inr (inr split)) = absurd (w.unsplit (subst (λ l. IsSplit p l (below p.shape.n) g kind) first (subst (λ (u : Gfid × Kind). IsSplit p told.begun (below p.shape.n) u.0 u.1) same (told.split.0 split))))
 
   module _ (log : Seq Line) (no_command : (k : ℕ) (c : Command) → slice_get (script_of p a) k ≡ Some c → ⊥) (older : Seq Line) where
-    keeps_to : (x : ActorId) (line : Line) → x.0 ≡ a → KeepsToTask p x.0 line older → (b : BrickId) × KeepsToRound p b line (work a older)
+    keeps_to : (x : ActorId) (line : Line) → x.0 ≡ a → KeepsToTask false p x.0 line older → (b : BrickId) × KeepsToRound p b line (work a older)
     keeps_to x line mine (ToCommand c e k) = absurd (no_command (ended x.0 older) c (subst (λ o. slice_get (script_of p o) (ended x.0 older) ≡ Some c) mine e))
-    keeps_to x line mine (ToRound h b e k) = (b, subst (λ o. KeepsToRound p b line (work o older)) mine k)
+    keeps_to x line mine (ToRound plain h b e k) = (b, subst (λ o. KeepsToRound p b line (work o older)) mine k)
+    keeps_to x line mine (ToCrawl crawls who b e k) = absurd (true≢false (sym crawls))
+    keeps_to x line mine (ToItem crawls h item given k) = absurd (true≢false (sym crawls))
 
     no_begun : (first : Seq Line) → begun_after (heal_by (work a older)) ≡ Some first → work a older ≡ [] → ⊥
     no_begun first e none = (let k : begun_after (heal_by []) ≡ Some first = subst (λ (w : Lines). begun_after (heal_by w) ≡ Some first) none e in cc k)
@@ -191,5 +193,5 @@ module _ (p : Plan) (a : ℕ) (was : Seq Line) (g : Gfid) (kind : Kind) where
     went_on (Event event) q calm t kept w = absurd (true≢false (sym calm.mine))
 
     -- a round ends only where no heal goes on
-    pub went_open : (x : ActorId) (said : Reply) → x.0 ≡ a → IsDue p (End x said) older → Went older → ⊥
+    pub went_open : (x : ActorId) (said : Reply) → x.0 ≡ a → IsDue false p (End x said) older → Went older → ⊥
     went_open x said mine d w = (let ended_all = (keeps_to x (End x said) mine d.0.keeps).1 in let k : None ≡ Some (g, kind) = sym ended_all.done ∙ w.due in cc k)

@@ -1,5 +1,5 @@
 -- What quiet rounds leave of the copies that every brick has: clear and alike, or in split-brain and as they were.
-use Rattle.std.specs.Prelude.{◌≡◌, ◌⊎◌, ℕ, ◌<◌, ◌≤◌, List, [], ◌∷◌, Some, length, slice_get, true}
+use Rattle.std.specs.Prelude.{◌≡◌, ◌⊎◌, ℕ, ◌<◌, ◌≤◌, List, [], ◌∷◌, false, Some, length, slice_get, true}
 use Rattle.afr_base.specs.Bricks.{below}
 use Rattle.afr_base.specs.Keeping.{keeps}
 use Rattle.afr_base.specs.declared.ids.ActorId.{ActorId}
@@ -69,7 +69,7 @@ IsQuietLeft p line older = Unit {0}
 abbrev pub QuietRoundsLeave : Type 0
 QuietRoundsLeave =
     (p : Plan) (log : List Line) → p.shape.n ≤ 5 → length p.clients ≤ 16 → length log ≤ 4000000
-    → Follows p log → Honest p log → IsLawfulExactly p log → Replied p log → RoundsAreLow p → EachLine (IsQuietLeft p) log
+    → Follows false p log → Honest p log → IsLawfulExactly p log → Replied p log → RoundsAreLow p → EachLine (IsQuietLeft p) log
 
 -- ---- round after round
 -- the log ends with an undisturbed round over brick b
@@ -118,4 +118,4 @@ HasConverged p log =
 abbrev pub QuietRoundsConverge : Type 0
 QuietRoundsConverge =
     (p : Plan) (log : List Line) → p.shape.n ≤ 5 → length p.clients ≤ 16 → length log ≤ 4000000
-    → Follows p log → Honest p log → IsLawfulExactly p log → Replied p log → RoundsAreLow p → EveryPrefix (HasConverged p) log
+    → Follows false p log → Honest p log → IsLawfulExactly p log → Replied p log → RoundsAreLow p → EveryPrefix (HasConverged p) log

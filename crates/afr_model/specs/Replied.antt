@@ -1,7 +1,6 @@
 -- Every reply has its cause, and every line is about what its actor's command or round names.
 use Rattle.std.specs.Prelude.{◌≡◌, ◌≤◌, List, Some, slice_get}
 use Rattle.afr_base.specs.declared.ids.ActorId.{ActorId}
-use Rattle.afr_base.specs.declared.ids.BrickId.{BrickId}
 use Rattle.afr_lines.specs.Log.{EachLine}
 use Rattle.afr_lines.specs.Work.{Work, work, ended}
 use Rattle.afr_lines.specs.declared.line.Line.{Line}
@@ -10,7 +9,7 @@ use Rattle.afr_lines.specs.declared.line.Line.TheVariants as line_of
 use Rattle.afr_plan.specs.declared.command.Command.{Command}
 use Rattle.afr_plan.specs.declared.command.Command.TheVariants as command
 use Rattle.afr_plan.specs.declared.plan.Plan.{Plan}
-use Rattle.afr_model.specs.Actors.{script_of, rounds_of}
+use Rattle.afr_model.specs.Actors.{script_of}
 use Rattle.afr_model.specs.Answered.{IsAbout}
 use Rattle.afr_model.specs.HealReplies.{IsHealing}
 use Rattle.afr_model.specs.Renamed.{IsOfRename}
@@ -23,7 +22,7 @@ IsOf p c line w = IsAbout p c line w
 -- what a line has to do with those before it, whatever its actor's present command or round is
 pub record IsOfTask (p : Plan) (a : ActorId) (line : Line) (older : List Line) : Type 0 where
   pub command : (c : Command) → slice_get (script_of p a.0) (ended a.0 older) ≡ Some c → IsOf p c line (work a.0 older)
-  pub round : 17 ≤ a.0 → (b : BrickId) → slice_get (rounds_of p a.0) (ended a.0 older) ≡ Some b → IsHealing p.shape line (work a.0 older)
+  pub round : 17 ≤ a.0 → IsHealing p.shape line (work a.0 older)
 
 -- a line of an actor is of its task; an event is of nobody
 abbrev pub IsReplied : Plan → Line → List Line → Type 0

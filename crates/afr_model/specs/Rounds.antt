@@ -47,9 +47,13 @@ abbrev pub heals_ended : Work → ℕ
 heals_ended [] = 0
 heals_ended (x ∷ w) = plus_healed x.0 (heals_ended w)
 
--- the heal that the round is at, or none where all have ended
+-- the heal of a list that a work is at, or none where all have ended
+abbrev pub due_in : List (Gfid × What) → Work → Option (Gfid × Kind)
+due_in list w = slice_get (heals_of list) (heals_ended w)
+
+-- the heal that a round is at
 abbrev pub heal_due : Plan → Work → Option (Gfid × Kind)
-heal_due p w = slice_get (heals_of (listed_by p w)) (heals_ended w)
+heal_due p w = due_in (listed_by p w) w
 
 -- the object of a heal's request; requests that no heal makes have none
 abbrev pub object_healed : Request → Option Gfid
@@ -64,25 +68,33 @@ object_healed (request.Mend repair) = Some (repaired repair)
 object_healed (request.Settle g kind less) = Some g
 object_healed other = None
 
--- a request is about the object of the heal that the round is at
-pub record IsOfHeal (p : Plan) (asked : Request) (w : Work) : Type 0 where
+-- a request is about the object of the heal of a list that the work is at
+pub record IsOfHeal (list : List (Gfid × What)) (asked : Request) (w : Work) : Type 0 where
   pub object : Gfid
   pub kind : Kind
-  pub due : heal_due p w ≡ Some (object, kind)
+  pub due : due_in list w ≡ Some (object, kind)
   pub about : object_healed asked ≡ Some object
 
--- the round has begun, and no heal of its list is left
-pub record IsHealed (p : Plan) (w : Work) : Type 0 where
+-- the work has begun, and no heal of the list is left
+pub record IsHealed (list : List (Gfid × What)) (w : Work) : Type 0 where
   pub first : Line × List Line
   pub older : Work
   pub begun : w ≡ first ∷ older
-  pub done : heal_due p w ≡ None
+  pub done : due_in list w ≡ None
 
--- a line of a work keeps to the round: the index of its brick is asked first, then come the heals of the list
+-- a line of a work keeps to the heals of a list, and to its end
+abbrev pub KeepsToHeals : List (Gfid × What) → Line → Work → Type 0
+KeepsToHeals list (Ask a y asked told took) w = IsOfHeal list asked w
+KeepsToHeals list (HealBegin a g kind) w = due_in list w ≡ Some (g, kind)
+KeepsToHeals list (HealEnd a g kind reply) w = due_in list w ≡ Some (g, kind)
+KeepsToHeals list (End a reply) w = IsHealed list w
+KeepsToHeals list line w = ⊥
+
+-- the index of a brick is asked first, then come the heals of a list
+abbrev pub KeepsToIndexed : BrickId → List (Gfid × What) → Line → Work → Type 0
+KeepsToIndexed b list (Ask a y request.Index told took) w = (w ≡ []) × (y ≡ b)
+KeepsToIndexed b list line w = KeepsToHeals list line w
+
+-- a line of a work keeps to the round: the heals are those of the list that the index gave
 abbrev pub KeepsToRound : Plan → BrickId → Line → Work → Type 0
-KeepsToRound p b (Ask a y request.Index told took) w = (w ≡ []) × (y ≡ b)
-KeepsToRound p b (Ask a y asked told took) w = IsOfHeal p asked w
-KeepsToRound p b (HealBegin a g kind) w = heal_due p w ≡ Some (g, kind)
-KeepsToRound p b (HealEnd a g kind reply) w = heal_due p w ≡ Some (g, kind)
-KeepsToRound p b (End a reply) w = IsHealed p w
-KeepsToRound p b line w = ⊥
+KeepsToRound p b line w = KeepsToIndexed b (listed_by p w) line w

@@ -83,8 +83,8 @@ module _ (laws : Laws) (p : Plan) (a : ActorId) (log : List Line) (servers : Lis
     hears Idle sound tells e = absurd tells
     hears (Lookup m) sound tells e = laws.telling.lookup_hears p m log a b asked s.given.answer s.given.took sound tells.1 e heard
     hears (Write m) sound tells e = laws.telling.write_hears p c.command m log a b asked s.given.answer s.given.took sound tells.1 e heard
-    hears (Entry m) sound tells e = laws.telling.entry_hears p c.command m log a b asked s.given.answer s.given.took sound tells e heard before.follows
-    hears (Rename m) sound tells e = laws.telling.rename_hears p c.command m log a b asked s.given.answer s.given.took sound tells e heard before.follows
+    hears (Entry m) sound tells e = laws.telling.entry_hears p c.command m log a b asked s.given.answer s.given.took sound tells e heard before.crawl before.follows
+    hears (Rename m) sound tells e = laws.telling.rename_hears p c.command m log a b asked s.given.answer s.given.took sound tells e heard before.crawl before.follows
 
     abbrev chosen : BrickId
     chosen = reader_of s.heard.picked
@@ -152,7 +152,7 @@ module _ (laws : Laws) (p : Plan) (a : ActorId) (log : List Line) (servers : Lis
       honest = so.go_on.0;
       lawful = so.lawful;
       served = so.go_on.1.served;
-      keeps = ToCommand c.command c.present about.1;
+      keeps = λ crawl. ToCommand c.command c.present about.1;
       replied = of_client p a line log c.command before.client c.present about.0;
       blamed = laws.telling.blamed p c.command x.work a told line log c.sound c.tells is_next;
       names = tt;

@@ -33,7 +33,8 @@ pub record IsBefore (p : Plan) (a : ActorId) (log : List Line) (servers : List S
   pub runnable : CanRun p
   pub room : length log < p.turns
   pub served : AreServed p log servers
-  pub follows : Follows p log
+  pub crawl : Bool
+  pub follows : Follows crawl p log
   pub honest : Honest p log
   pub lawful : IsLawfulExactly p log
   pub one : 1 ≤ a.0

@@ -15,7 +15,7 @@ use Rattle.afr_lines.specs.declared.reply.Reply.TheVariants as reply
 use Rattle.afr_lines.specs.declared.request.Request.{Request}
 use Rattle.afr_lines.specs.declared.request.Request.TheVariants as request
 use Rattle.afr_model.specs.Chosen.{Picks, ReadsPicked}
-use Rattle.afr_model.specs.Following.{Follows, IsFollowing, KeepsToTask, ToCommand, ToRound}
+use Rattle.afr_model.specs.Following.{Follows, IsFollowing, KeepsToTask, ToCommand, ToCrawl, ToItem, ToRound}
 use Rattle.afr_model.specs.HealReplies.{refuses_index}
 use Rattle.afr_model.specs.Replied.{IsReplied, Replied}
 use Rattle.afr_model.specs.Showing.{has}
@@ -51,17 +51,19 @@ ends_so reads p x (reply.Ok of) log true e = absurd (cc e)
 ends_so reads p x (reply.Ok of) log false e = ends_good reads p x of log e
 ends_so reads p x said log refused e = tt
 
-ends_no : (reads : Picks) (p : Plan) (x : ActorId) (said : Reply) (log : List Line) → length p.clients ≤ 16 → 17 ≤ x.0 → KeepsToTask p x.0 (line_of.End x said) log → IsReplied p (line_of.End x said) log → ReadsPicked reads p (line_of.End x said) log
-ends_no reads p x said log few low (ToCommand c is k) replied = absurd (no_script p x.0 (ended x.0 log) c few low is)
-ends_no reads p x said log few low (ToRound healer b is k) replied = ends_so reads p x said log (has refuses_index (work x.0 log)) (replied.round healer b is)
+ends_no : (crawl : Bool) (reads : Picks) (p : Plan) (x : ActorId) (said : Reply) (log : List Line) → length p.clients ≤ 16 → 17 ≤ x.0 → KeepsToTask crawl p x.0 (line_of.End x said) log → IsReplied p (line_of.End x said) log → ReadsPicked reads p (line_of.End x said) log
+ends_no crawl reads p x said log few low (ToCommand c is k) replied = absurd (no_script p x.0 (ended x.0 log) c few low is)
+ends_no crawl reads p x said log few low (ToRound plain healer b is k) replied = ends_so reads p x said log (has refuses_index (work x.0 log)) (replied.round low)
+ends_no crawl reads p x said log few low (ToCrawl crawls first b is k) replied = ends_so reads p x said log (has refuses_index (work x.0 log)) (replied.round low)
+ends_no crawl reads p x said log few low (ToItem crawls healer item given k) replied = ends_so reads p x said log (has refuses_index (work x.0 log)) (replied.round low)
 
-healer_reads : (reads : Picks) (p : Plan) (a : ℕ) (line : Line) (log : List Line) → length p.clients ≤ 16 → 17 ≤ a → is_of a line ≡ true → IsFollowing p line log → IsReplied p line log → ReadsPicked reads p line log
-healer_reads reads p a (line_of.Ask x b asked told took) log few low own follows replied = let same : x.0 ≡ a = grind (arith, nat_tests, own) in asks_no reads p x b asked told took log (omega (arith, same, low))
-healer_reads reads p a (line_of.Begin x change) log few low own follows replied = tt
-healer_reads reads p a (line_of.HealBegin x g kind) log few low own follows replied = tt
-healer_reads reads p a (line_of.End x said) log few low own follows replied = let same : x.0 ≡ a = grind (arith, nat_tests, own) in ends_no reads p x said log few (omega (arith, same, low)) follows.1.0.keeps replied
-healer_reads reads p a (line_of.HealEnd x g kind said) log few low own follows replied = tt
-healer_reads reads p a (line_of.Event event) log few low own follows replied = absurd (cc own)
+healer_reads : (crawl : Bool) (reads : Picks) (p : Plan) (a : ℕ) (line : Line) (log : List Line) → length p.clients ≤ 16 → 17 ≤ a → is_of a line ≡ true → IsFollowing crawl p line log → IsReplied p line log → ReadsPicked reads p line log
+healer_reads crawl reads p a (line_of.Ask x b asked told took) log few low own follows replied = let same : x.0 ≡ a = grind (arith, nat_tests, own) in asks_no reads p x b asked told took log (omega (arith, same, low))
+healer_reads crawl reads p a (line_of.Begin x change) log few low own follows replied = tt
+healer_reads crawl reads p a (line_of.HealBegin x g kind) log few low own follows replied = tt
+healer_reads crawl reads p a (line_of.End x said) log few low own follows replied = let same : x.0 ≡ a = grind (arith, nat_tests, own) in ends_no crawl reads p x said log few (omega (arith, same, low)) follows.1.0.keeps replied
+healer_reads crawl reads p a (line_of.HealEnd x g kind said) log few low own follows replied = tt
+healer_reads crawl reads p a (line_of.Event event) log few low own follows replied = absurd (cc own)
 
 -- a line of no client leaves what was picked for each
 others_read : (reads : Picks) (p : Plan) (log : List Line) (line : Line) (old new : List (Option ℕ)) → ReadsPicked reads p line log → ((i : ℕ) → i < length p.clients → is_of (1 + i) line ≡ false) → ((i : ℕ) → i < length p.clients → slice_get new i ≡ slice_get old i)
@@ -71,33 +73,33 @@ others_read reads p log line old new picked other same k = record {
   present = λ i brick small is. subst (λ (from : List (ℕ × ℕ)). PickAnswers reads from brick) (sym (other_asked p (1 + i) line log (other i small))) (k.present i brick small (sym (same i small) ∙ is));
 }
 
-healer_adds : (reads : Picks) (a : ActorId) (old new : State) (waits : Option ActorId) → 17 ≤ a.0 → AddsLine a old waits new → Follows new.plan new.log → Replied new.plan new.log → length new.plan.clients ≤ 16 → ReadsChosen reads old → ReadsChosen reads new
-healer_adds reads a old new waits low h follows replied few k =
+healer_adds : (crawl : Bool) (reads : Picks) (a : ActorId) (old new : State) (waits : Option ActorId) → 17 ≤ a.0 → AddsLine a old waits new → Follows crawl new.plan new.log → Replied new.plan new.log → length new.plan.clients ≤ 16 → ReadsChosen reads old → ReadsChosen reads new
+healer_adds crawl reads a old new waits low h follows replied few k =
     let plan : new.plan ≡ old.plan = h.plan in
     let added : new.log ≡ h.line ∷ old.log = h.added in
-    let f : Follows old.plan (h.line ∷ old.log) = rw (plan, added) at follows in
+    let f : Follows crawl old.plan (h.line ∷ old.log) = rw (plan, added) at follows in
     let r : Replied old.plan (h.line ∷ old.log) = rw (plan, added) at replied in
     let small : length old.plan.clients ≤ 16 = rw plan at few in
     rw (plan, added)
-    (others_read reads old.plan old.log h.line old.picked new.picked (healer_reads reads old.plan a.0 h.line old.log small low h.own f.0 r.0) (λ i client. own_of a.0 h.line h.own (1 + i) ∙ differ i (omega (arith, client, small)))
+    (others_read reads old.plan old.log h.line old.picked new.picked (healer_reads crawl reads old.plan a.0 h.line old.log small low h.own f.0 r.0) (λ i client. own_of a.0 h.line h.own (1 + i) ∙ differ i (omega (arith, client, small)))
     (λ i client. h.others_picked i (λ same. absurd (omega (arith, same, low, client, small)))) k)
   where
     differ : (i : ℕ) → i < 16 → (a.0 == 1 + i) ≡ false
     differ i client = grind (arith, nat_tests, client, low)
 
-healer_turn : (reads : Picks) (a : ActorId) (old new : State) (turned : Turned) → 17 ≤ a.0 → Turns a old turned new → Follows new.plan new.log → Replied new.plan new.log → length new.plan.clients ≤ 16 → ReadsChosen reads old → ReadsChosen reads new
-healer_turn reads a old new Moved low h follows replied few k = healer_adds reads a old new None low h follows replied few k
-healer_turn reads a old new (Waits owner) low h follows replied few k = healer_adds reads a old new (Some owner) low h follows replied few k
-healer_turn reads a old new Ended low h follows replied few k = subst (ReadsChosen reads) (sym h.1) k
-healer_turn reads a old new Full low h follows replied few k = subst (ReadsChosen reads) (sym h.2) k
+healer_turn : (crawl : Bool) (reads : Picks) (a : ActorId) (old new : State) (turned : Turned) → 17 ≤ a.0 → Turns a old turned new → Follows crawl new.plan new.log → Replied new.plan new.log → length new.plan.clients ≤ 16 → ReadsChosen reads old → ReadsChosen reads new
+healer_turn crawl reads a old new Moved low h follows replied few k = healer_adds crawl reads a old new None low h follows replied few k
+healer_turn crawl reads a old new (Waits owner) low h follows replied few k = healer_adds crawl reads a old new (Some owner) low h follows replied few k
+healer_turn crawl reads a old new Ended low h follows replied few k = subst (ReadsChosen reads) (sym h.1) k
+healer_turn crawl reads a old new Full low h follows replied few k = subst (ReadsChosen reads) (sym h.2) k
 
 -- ---- a turn, whoever takes it
-module _ {E : Type 0} (reads heals : Picks) (a : ActorId) (old new : State) (follows : Follows new.plan new.log) (replied : Replied new.plan new.log) (few : length new.plan.clients ≤ 16) (of_heals : 17 ≤ a.0 → HealsChosen heals old → HealsChosen heals new)
+module _ {E : Type 0} (crawl : Bool) (reads heals : Picks) (a : ActorId) (old new : State) (follows : Follows crawl new.plan new.log) (replied : Replied new.plan new.log) (few : length new.plan.clients ≤ 16) (of_heals : 17 ≤ a.0 → HealsChosen heals old → HealsChosen heals new)
     (of_reads : a.0 ≤ 16 → ReadsChosen reads old → ReadsChosen reads new) where
   by : (small : Bool) → nat_le a.0 16 ≡ small → (result : Result Turned E) → IfOk result (λ turned. Turns a old turned new) → OnErr result (new ≡ old) → IsChosen reads heals old → IsChosen reads heals new
   by small e (Err none) ok err k = subst (IsChosen reads heals) (sym err) k
-  by true e (Ok turned) ok err k = let low : a.0 ≤ 16 = grind (arith, nat_tests, e) in record { of_reads = of_reads low k.of_reads; of_heals = client_turn heals a old new turned low ok follows k.of_heals }
-  by false e (Ok turned) ok err k = let low : 17 ≤ a.0 = grind (arith, nat_tests, e) in record { of_reads = healer_turn reads a old new turned low ok follows replied few k.of_reads; of_heals = of_heals low k.of_heals }
+  by true e (Ok turned) ok err k = let low : a.0 ≤ 16 = grind (arith, nat_tests, e) in record { of_reads = of_reads low k.of_reads; of_heals = client_turn crawl heals a old new turned low ok follows k.of_heals }
+  by false e (Ok turned) ok err k = let low : 17 ≤ a.0 = grind (arith, nat_tests, e) in record { of_reads = healer_turn crawl reads a old new turned low ok follows replied few k.of_reads; of_heals = of_heals low k.of_heals }
 
   pub turn_chosen : (result : Result Turned E) → IfOk result (λ turned. Turns a old turned new) → OnErr result (new ≡ old) → IsChosen reads heals old → IsChosen reads heals new
   turn_chosen result ok err k = by (nat_le a.0 16) refl result ok err k

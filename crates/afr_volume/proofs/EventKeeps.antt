@@ -75,8 +75,8 @@ module _ (p : Plan) (c : ℕ) (event : Event) (log : List Line) (old new : List 
   })
 
 -- ---- the whole volume
-pub kept_event : (happened : EventKeepsAll) (comes : EventAreServed) (p : Plan) (log : List Line) (servers new : List Serving) (actors after : List Actor) (made : ℕ) (event : Event)
-    → IsVolume p log servers actors made → InRange (line_of.Event event) → IsDueNow p log event → MeetsEach event servers new → KillsIn event actors after → IsVolume p (line_of.Event event ∷ log) new after (made + 1)
+pub kept_event : {crawl : Bool} (happened : EventKeepsAll) (comes : EventAreServed) (p : Plan) (log : List Line) (servers new : List Serving) (actors after : List Actor) (made : ℕ) (event : Event)
+    → IsVolume crawl p log servers actors made → InRange (line_of.Event event) → IsDueNow p log event → MeetsEach event servers new → KillsIn event actors after → IsVolume crawl p (line_of.Event event ∷ log) new after (made + 1)
 kept_event happened comes p log servers new actors after made event v fits due meets kills = record {
   runnable = v.runnable;
   room = due.room;
@@ -101,17 +101,17 @@ kept_event happened comes p log servers new actors after made event v fits due m
         still_acting p (i + 1) event log servers new happened fits (served.1 (i + 1)) (get_or actors i y) y (kills.each i (get_or actors i y) y there h) (v.each i (get_or actors i y) there)
 
 -- the same of the log as the code keeps it
-pub happened : (laws : EventLaws) (p : Plan) (items added : List Line) (servers new : List Serving) (actors after : List Actor) (made : ℕ) (event : Event)
-    → IsVolume p (reverse items) servers actors made → InRange (line_of.Event event) → due_at p (reverse items) ≡ Some event → MeetsEach event servers new → KillsIn event actors after → added ≡ items ++ line_of.Event event ∷ []
-    → IsVolume p (reverse added) new after (made + 1)
+pub happened : {crawl : Bool} (laws : EventLaws) (p : Plan) (items added : List Line) (servers new : List Serving) (actors after : List Actor) (made : ℕ) (event : Event)
+    → IsVolume crawl p (reverse items) servers actors made → InRange (line_of.Event event) → due_at p (reverse items) ≡ Some event → MeetsEach event servers new → KillsIn event actors after → added ≡ items ++ line_of.Event event ∷ []
+    → IsVolume crawl p (reverse added) new after (made + 1)
 happened laws p items added servers new actors after made event v fits due meets kills grown =
     rw (grown, reverse_push items (line_of.Event event))
     (kept_event laws.happened laws.comes p (reverse items) servers new actors after made event v fits (due_gives p (reverse items) event due) meets kills)
 
 -- and so of the healers
-pub whole_happened : (paces : PaceLaws) (rounds : RoundLaws) (laws : EventLaws) (p : Plan) (items added : List Line) (servers new : List Serving) (actors after : List Actor) (healers healers_after : List Healer) (made : ℕ) (event : Event)
-    → IsWhole p (reverse items) servers actors healers made → InRange (line_of.Event event) → due_at p (reverse items) ≡ Some event → MeetsEach event servers new → KillsIn event actors after → KillsHealersIn event healers healers_after
-    → added ≡ items ++ line_of.Event event ∷ [] → IsWhole p (reverse added) new after healers_after (made + 1)
+pub whole_happened : {crawl : Bool} (paces : PaceLaws) (rounds : RoundLaws) (laws : EventLaws) (p : Plan) (items added : List Line) (servers new : List Serving) (actors after : List Actor) (healers healers_after : List Healer) (made : ℕ) (event : Event)
+    → IsWhole crawl p (reverse items) servers actors healers made → InRange (line_of.Event event) → due_at p (reverse items) ≡ Some event → MeetsEach event servers new → KillsIn event actors after → KillsHealersIn event healers healers_after
+    → added ≡ items ++ line_of.Event event ∷ [] → IsWhole crawl p (reverse added) new after healers_after (made + 1)
 whole_happened paces rounds laws p items added servers new actors after healers healers_after made event w fits due meets kills healers_killed grown = record {
   kept = happened laws p items added servers new actors after made event w.kept fits due meets kills grown;
   healing =
@@ -155,11 +155,11 @@ start_within p (Cut a b) s k h = h
 start_within p (Join a b) s k h = h
 start_within p (Kill a) s k h = h
 
-pub started_within : (p : Plan) (log : List Line) → CanRun p → Follows p log → IsWithin p.shape.n (started_bricks p.shape.n log)
-started_within p [] run f = within_below p.shape.n
-started_within p (line_of.Ask a b asked told took ∷ older) run f = started_within p older run f.1
-started_within p (line_of.Begin a change ∷ older) run f = started_within p older run f.1
-started_within p (line_of.HealBegin a g kind ∷ older) run f = started_within p older run f.1
-started_within p (line_of.End a said ∷ older) run f = started_within p older run f.1
-started_within p (line_of.HealEnd a g kind said ∷ older) run f = started_within p older run f.1
-started_within p (line_of.Event event ∷ older) run f = start_within p event (started_bricks p.shape.n older) (subst (IsEventOf p) f.0.1.same (run.events (events_made older) f.0.1.planned f.0.1.next)) (started_within p older run f.1)
+pub started_within : (crawl : Bool) (p : Plan) (log : List Line) → CanRun p → Follows crawl p log → IsWithin p.shape.n (started_bricks p.shape.n log)
+started_within crawl p [] run f = within_below p.shape.n
+started_within crawl p (line_of.Ask a b asked told took ∷ older) run f = started_within crawl p older run f.1
+started_within crawl p (line_of.Begin a change ∷ older) run f = started_within crawl p older run f.1
+started_within crawl p (line_of.HealBegin a g kind ∷ older) run f = started_within crawl p older run f.1
+started_within crawl p (line_of.End a said ∷ older) run f = started_within crawl p older run f.1
+started_within crawl p (line_of.HealEnd a g kind said ∷ older) run f = started_within crawl p older run f.1
+started_within crawl p (line_of.Event event ∷ older) run f = start_within p event (started_bricks p.shape.n older) (subst (IsEventOf p) f.0.1.same (run.events (events_made older) f.0.1.planned f.0.1.next)) (started_within crawl p older run f.1)

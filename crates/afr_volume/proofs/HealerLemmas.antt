@@ -1,5 +1,5 @@
 -- One healer among all, as the code finds it.
-use Rattle.std.proofs.Common.{◌≡◌, ◌∙◌, ℕ, ◌-◌, ◌<◌, List, [], refl, ap, sym, subst, length, Some, slice_get, set, get_or}
+use Rattle.std.proofs.Common.{◌≡◌, ◌∙◌, ℕ, ◌-◌, ◌<◌, true, List, [], refl, ap, sym, subst, length, Some, slice_get, set, get_or}
 use Rattle.std.proofs.lemmas.Option.{get_or_from_slice_get, slice_get-get_or}
 use Rattle.afr_base.specs.declared.ids.BrickId.{BrickId}
 use Rattle.afr_model.specs.Actors.{rounds_of}
@@ -19,7 +19,7 @@ pub rounds_are : (p : Plan) (a : ℕ) (rounds : List BrickId) → slice_get p.he
 rounds_are p a rounds h = get_or_from_slice_get p.healers (a - 17) rounds [] h
 
 pub readied : (p : Plan) (a : ℕ) (l : List Healer) (seen x z : Healer) (rounds : List BrickId) (brick : BrickId) → a - 17 < length l → seen ≡ get_or l (a - 17) seen → x ≡ get_or l (a - 17) x → slice_get p.healers (a - 17) ≡ Some rounds
-    → slice_get rounds seen.ended ≡ Some brick → Readies p.shape brick x z → ReadiedHealerAt p a l (set l (a - 17) z)
+    → slice_get rounds seen.ended ≡ Some brick → Readies p.shape true brick x z → ReadiedHealerAt p a l (set l (a - 17) z)
 readied p a l seen x z rounds brick small e f own present r = record {
   before = x;
   after = z;

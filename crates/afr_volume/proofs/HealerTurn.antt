@@ -57,7 +57,7 @@ got_set [] i y z small e = absurd (omega (arith, small))
 got_set (x ∷ l) zero y z small e = sym (cc e)
 got_set (x ∷ l) (suc i) y z small e = got_set l i y z (omega (arith, small)) e
 
-module _ (laws : RoundLaws) (paces : PaceLaws) (p : Plan) (a : ActorId) (items : List Line) (actors : List Actor) (healers readied : List Healer) (servers : List Serving) (made : ℕ) (w : IsWhole p (reverse items) servers actors healers made) (healer : 17 ≤ a.0) (actor : IsActor p a.0)
+module _ (laws : RoundLaws) (paces : PaceLaws) (p : Plan) (a : ActorId) (items : List Line) (actors : List Actor) (healers readied : List Healer) (servers : List Serving) (made : ℕ) (w : IsWhole false p (reverse items) servers actors healers made) (healer : 17 ≤ a.0) (actor : IsActor p a.0)
     (room : length items < p.turns) (r : ReadiedHealerAt p a.0 healers readied) where
   known : a.0 < 20
   known = (healer_is p a.0 w.kept.runnable (above a.0 healer) actor).2
@@ -71,15 +71,15 @@ module _ (laws : RoundLaws) (paces : PaceLaws) (p : Plan) (a : ActorId) (items :
   few : length (reverse items) < p.turns
   few = omega (arith, length-reverse items, room)
 
-  pub ready_whole : IsWhole p (reverse items) servers actors readied made
+  pub ready_whole : IsWhole false p (reverse items) servers actors readied made
   ready_whole = record {
     kept = w.kept;
     healing = kept_healer laws p a.0 (reverse items) servers healers readied healer w.kept.runnable.few (w.kept.runnable.rounds a.0) w.healing r;
     pacing = ready_rounds paces p a.0 (reverse items) servers actors healers readied w.healing r w.pacing;
   }
 
-  mine : (x : Healer) → slice_get readied (a.0 - 17) ≡ Some x → IsHealer p (reverse items) a.0 servers x
-  mine x is = (let e : 17 + (a.0 - 17) ≡ a.0 = omega (arith, healer) in subst (λ (c : ℕ). IsHealer p (reverse items) c servers x) e (ready_whole.healing.each (a.0 - 17) x is))
+  mine : (x : Healer) → slice_get readied (a.0 - 17) ≡ Some x → IsHealer false p (reverse items) a.0 servers x
+  mine x is = (let e : 17 + (a.0 - 17) ≡ a.0 = omega (arith, healer) in subst (λ (c : ℕ). IsHealer false p (reverse items) c servers x) e (ready_whole.healing.each (a.0 - 17) x is))
 
   is_after : (x : Healer) → slice_get readied (a.0 - 17) ≡ Some x → x ≡ r.after
   is_after x is = got_set healers (a.0 - 17) r.after x (slice_get_within healers (a.0 - 17) r.before r.was) (rw r.set_is at is)
@@ -97,11 +97,11 @@ module _ (laws : RoundLaws) (paces : PaceLaws) (p : Plan) (a : ActorId) (items :
   pub steps : (at : ℕ) → at ≡ length items → (x : Healer) → slice_get readied (a.0 - 17) ≡ Some x → CanStep a at x servers
   steps at position x is =
       subst (λ (at : ℕ). CanStep a at x servers) (length-reverse items ∙ sym position)
-      (laws.can p a (reverse items) servers x (before_round p a (reverse items) servers actors made w.kept healer known some few) (mine x is) (made_so x is))
+      (laws.can false p a (reverse items) servers x (before_round p a (reverse items) servers actors made w.kept healer known some few) (mine x is) (made_so x is))
 
   -- ---- the turn
   pub record Healed (added : List Line) (new_servers : List Serving) (new_healers : List Healer) (line : Line) : Type 0 where
-    pub whole : IsWhole p (reverse added) new_servers actors new_healers made
+    pub whole : IsWhole false p (reverse added) new_servers actors new_healers made
     pub own : is_of a.0 line ≡ true
     pub log : reverse added ≡ line ∷ reverse items
 
@@ -119,7 +119,7 @@ module _ (laws : RoundLaws) (paces : PaceLaws) (p : Plan) (a : ActorId) (items :
       wrote : Wrote a line
       wrote = round_wrote laws p a (reverse items) servers new_servers actors readied made line s.before s.after ready_whole healer known some s.was (made_so s.before s.was) few stepped
 
-      volume : IsVolume p (line ∷ reverse items) new_servers actors made
+      volume : IsVolume false p (line ∷ reverse items) new_servers actors made
       volume = kept_line laws p a (reverse items) servers new_servers actors readied made line s.before s.after ready_whole healer known some s.was (made_so s.before s.was) few stepped actor (not_killed p a.0 (reverse items) left)
           (none_due p (reverse items) few none)
 
@@ -127,7 +127,7 @@ module _ (laws : RoundLaws) (paces : PaceLaws) (p : Plan) (a : ActorId) (items :
       paced = round_paced paces p a (reverse items) servers new_servers actors readied made line s.before s.after ready_whole healer known some s.was (made_so s.before s.was) few stepped wrote
           (heal_rises paces p a (reverse items) servers new_servers s.before s.after line (mine s.before s.was) stepped (is_of_plan p (line ∷ reverse items) new_servers actors made volume))
 
-      kept : IsWhole p (line ∷ reverse items) new_servers actors (set readied (a.0 - 17) s.after) made
+      kept : IsWhole false p (line ∷ reverse items) new_servers actors (set readied (a.0 - 17) s.after) made
       kept = kept_round laws p a (reverse items) servers new_servers actors readied made line s.before s.after ready_whole healer known some s.was (made_so s.before s.was) few stepped actor (not_killed p a.0 (reverse items) left)
           (none_due p (reverse items) few none) paced
 
@@ -141,11 +141,11 @@ module _ (laws : RoundLaws) (paces : PaceLaws) (p : Plan) (a : ActorId) (items :
       stepped : Stepped (IsFed calls choose) a (length (reverse items)) s.before s.after servers new_servers line
       stepped = subst (λ (at : ℕ). Stepped (IsFed calls choose) a at s.before s.after servers new_servers line) (position ∙ sym (length-reverse items)) s.steps
 
-      before : IsBeforeRound p a (reverse items) servers
+      before : IsBeforeRound false p a (reverse items) servers
       before = before_round p a (reverse items) servers actors made w.kept healer known some few
 
       written : IsWritten a line
-      written = (laws.keeps p a (reverse items) servers new_servers s.before s.after line before (mine s.before s.was) (made_so s.before s.was) (steps_answered calls choose a (length (reverse items)) s.before s.after servers new_servers line stepped)).written
+      written = (laws.keeps false p a (reverse items) servers new_servers s.before s.after line before (mine s.before s.was) (made_so s.before s.was) (steps_answered calls choose a (length (reverse items)) s.before s.after servers new_servers line stepped)).written
 
 -- whatever the rule was, the line is one that a heal may write
 pub answered_at : {F : Type 0} (calls : Calls F) (choose : F) (a : ActorId) (at : ℕ) (old new : List Healer) (bricks after : List Serving) (line : Line) → StepsHealerAt (IsFed calls choose) a at old new bricks after line
@@ -164,8 +164,8 @@ some_healer (x ∷ healers) zero small = (x, refl)
 some_healer (x ∷ healers) (suc i) small = some_healer healers i (omega (arith, small))
 
 -- a healer that has ended all its rounds has no present one
-pub rested : (laws : RoundLaws) (p : Plan) (log : List Line) (servers : List Serving) (healers : List Healer) → CanRun p → AreHealers p log servers healers → (a : ℕ) → 17 ≤ a → IsActor p a → is_done p a log ≡ true → is_killed a log ≡ false → work a log ≡ []
-rested laws p log servers healers run k a low actor done alive = laws.ends p a log servers x.0 few mine
+pub rested : (laws : RoundLaws) (p : Plan) (log : List Line) (servers : List Serving) (healers : List Healer) → CanRun p → AreHealers false p log servers healers → (a : ℕ) → 17 ≤ a → IsActor p a → is_done p a log ≡ true → is_killed a log ≡ false → work a log ≡ []
+rested laws p log servers healers run k a low actor done alive = laws.ends false p a log servers x.0 (λ crawls. absurd (cc crawls)) few mine
   where
     bounds : (17 ≤ a) × (a ≤ 16 + length p.healers) × (a < 20)
     bounds = healer_is p a run (above a low) actor
@@ -173,8 +173,8 @@ rested laws p log servers healers run k a low actor done alive = laws.ends p a l
     x : (x : Healer) × (slice_get healers (a - 17) ≡ Some x)
     x = let high = bounds.1 in some_healer healers (a - 17) (omega (arith, low, high, k.same))
 
-    mine : IsHealer p log a servers x.0
-    mine = let e : 17 + (a - 17) ≡ a = omega (arith, low) in subst (λ (c : ℕ). IsHealer p log c servers x.0) e (k.each (a - 17) x.0 x.1)
+    mine : IsHealer false p log a servers x.0
+    mine = let e : 17 + (a - 17) ≡ a = omega (arith, low) in subst (λ (c : ℕ). IsHealer false p log c servers x.0) e (k.each (a - 17) x.0 x.1)
 
     few : length (rounds_of p a) ≤ ended a log
     few =
@@ -184,6 +184,6 @@ rested laws p log servers healers run k a low actor done alive = laws.ends p a l
         grind (arith, nat_tests, m)
 
 -- nor has a client
-pub all_rest : (laws : RoundLaws) (p : Plan) (log : List Line) (servers : List Serving) (actors : List Actor) (healers : List Healer) (made : ℕ) → IsWhole p log servers actors healers made → (a : ℕ) → IsActor p a → is_done p a log ≡ true → is_killed a log ≡ false → work a log ≡ []
+pub all_rest : (laws : RoundLaws) (p : Plan) (log : List Line) (servers : List Serving) (actors : List Actor) (healers : List Healer) (made : ℕ) → IsWhole false p log servers actors healers made → (a : ℕ) → IsActor p a → is_done p a log ≡ true → is_killed a log ≡ false → work a log ≡ []
 all_rest laws p log servers actors healers made w a (Client one most) done alive = settled p log servers actors made w.kept a (omega (arith, most, w.kept.runnable.clients)) (Client one most) done alive
 all_rest laws p log servers actors healers made w a (ByHealer low most) done alive = rested laws p log servers healers w.kept.runnable w.healing a low (ByHealer low most) done alive

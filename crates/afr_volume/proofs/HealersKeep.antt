@@ -17,7 +17,7 @@ use Rattle.afr_model_moves.specs.Ranges.{InRange}
 use Rattle.afr_plan.specs.declared.plan.Plan.{Plan}
 use Rattle.afr_healer.specs.Acting.{Stepped}
 use Rattle.afr_healer.specs.Keeping.{IsHealer}
-use Rattle.afr_healer.specs.Laws.{IsBeforeRound, IsBeside, IsMadeReady, IsWritten, RoundKeeps}
+use Rattle.afr_healer.specs.Laws.{IsBeforeRound, IsBeside, IsMadeReady, IsWritten, Round, RoundKeeps}
 use Rattle.afr_healer.specs.Laws as rounds
 use Rattle.afr_healer.specs.declared.healer.Healer.{Healer}
 use Rattle.afr_server.specs.Serving.{Serving}
@@ -64,8 +64,8 @@ module _ (laws : RoundLaws) (p : Plan) (a : ActorId) (c : ℕ) (line : Line) (lo
     found = found;
   })
 
-  pub healer_stays : (x : Healer) → IsHealer p log c old x → IsHealer p (line ∷ log) c new x
-  healer_stays x k = laws.others p c line log old new x x beside same k
+  pub healer_stays : {crawl : Bool} (x : Healer) → IsHealer crawl p log c old x → IsHealer crawl p (line ∷ log) c new x
+  healer_stays {crawl = crawl} x k = laws.others crawl p c line log old new x x beside same k
     where
       killed : is_killed c (line ∷ log) ≡ x.killed
       killed = wrote_killed a c line log wrote ∙ sym k.killed_is
@@ -74,9 +74,9 @@ module _ (laws : RoundLaws) (p : Plan) (a : ActorId) (c : ℕ) (line : Line) (lo
       same = rw killed refl
 
 -- a line of a client leaves each healer as it was
-pub healers_stay : (laws : RoundLaws) (p : Plan) (a : ActorId) (line : Line) (log : List Line) (old new : List Serving) (healers : List Healer) → a.0 ≤ 16 → Wrote a line
+pub healers_stay : {crawl : Bool} (laws : RoundLaws) (p : Plan) (a : ActorId) (line : Line) (log : List Line) (old new : List Serving) (healers : List Healer) → a.0 ≤ 16 → Wrote a line
     → ((c : ℕ) (r : Register) → (a.0 ≡ c → ⊥) → Stood p.shape c log r → Stood p.shape c (line ∷ log) r) → ((c : ℕ) (epochs : Epochs) → c ≢ a.0 → AreFound c epochs old → AreFound c epochs new)
-    → AreHealers p log old healers → AreHealers p (line ∷ log) new healers
+    → AreHealers crawl p log old healers → AreHealers crawl p (line ∷ log) new healers
 healers_stay laws p a line log old new healers client wrote stands found k = record {
   same = k.same;
   each = λ i x h. healer_stays laws p a (17 + i) line log old new wrote (apart i) (λ r. stands (17 + i) r (apart i)) (λ epochs. found (17 + i) epochs (λ e. apart i (sym e))) x (k.each i x h);
@@ -86,20 +86,20 @@ healers_stay laws p a line log old new healers client wrote stands found k = rec
     apart i e = absurd (omega (arith, client, e))
 
 -- ---- an event
-pub healers_happen : (laws : RoundLaws) (events : EventLaws) (p : Plan) (event : Event) (log : List Line) (old new : List Serving) (healers after : List Healer) → InRange (line_of.Event event)
-    → ((c : ℕ) (epochs : Epochs) → AreFound c epochs old → AreFound c epochs new) → KillsHealersIn event healers after → AreHealers p log old healers → AreHealers p (line_of.Event event ∷ log) new after
-healers_happen laws events p event log old new healers after fits found killed k = record { same = killed.count ∙ k.same; each = each }
+pub healers_happen : {crawl : Bool} (laws : RoundLaws) (events : EventLaws) (p : Plan) (event : Event) (log : List Line) (old new : List Serving) (healers after : List Healer) → InRange (line_of.Event event)
+    → ((c : ℕ) (epochs : Epochs) → AreFound c epochs old → AreFound c epochs new) → KillsHealersIn event healers after → AreHealers crawl p log old healers → AreHealers crawl p (line_of.Event event ∷ log) new after
+healers_happen {crawl = crawl} laws events p event log old new healers after fits found killed k = record { same = killed.count ∙ k.same; each = each }
   where
     beside : (c : ℕ) → IsBeside p c (line_of.Event event) log old new
     beside c = record { other = refl; same_work = refl; same_place = refl; same_ended = refl; stands = (events.happened p log event fits).stand c; found = found c }
 
-    each : (i : ℕ) (y : Healer) → slice_get after i ≡ Some y → IsHealer p (line_of.Event event ∷ log) (17 + i) new y
+    each : (i : ℕ) (y : Healer) → slice_get after i ≡ Some y → IsHealer crawl p (line_of.Event event ∷ log) (17 + i) new y
     each i y h =
         let was = get_or healers i y in
         let there = slice_get-get_or healers i y (omega (arith, slice_get_within after i y h, killed.count)) in
         let before = k.each i was there in
         let becomes = killed.each i was y there h in
-        laws.others p (17 + i) (line_of.Event event) log old new was y (beside (17 + i)) (becomes ∙ ap (λ (dead : Bool). record was { killed = kills (17 + i) (line_of.Event event) || dead }) before.killed_is) before
+        laws.others crawl p (17 + i) (line_of.Event event) log old new was y (beside (17 + i)) (becomes ∙ ap (λ (dead : Bool). record was { killed = kills (17 + i) (line_of.Event event) || dead }) before.killed_is) before
 
 -- ---- a line of a healer
 -- it gives up no name
@@ -115,7 +115,7 @@ to_wrote a line (rounds.Begins g kind) = Parts g kind
 to_wrote a line (rounds.Heals g kind said) = Heals g kind said
 to_wrote a line (rounds.Ends said) = Ends said
 
-pub before_round : (p : Plan) (a : ActorId) (log : List Line) (servers : List Serving) (actors : List Actor) (made : ℕ) → IsVolume p log servers actors made → 17 ≤ a.0 → a.0 < 20 → 0 < p.shape.n → length log < p.turns → IsBeforeRound p a log servers
+pub before_round : {crawl : Bool} (p : Plan) (a : ActorId) (log : List Line) (servers : List Serving) (actors : List Actor) (made : ℕ) → IsVolume crawl p log servers actors made → 17 ≤ a.0 → a.0 < 20 → 0 < p.shape.n → length log < p.turns → IsBeforeRound crawl p a log servers
 before_round p a log servers actors made v healer known some room = record {
   few = v.runnable.few;
   some = some;
@@ -130,16 +130,16 @@ before_round p a log servers actors made v healer known some room = record {
   bricks = λ k b is. v.runnable.rounds a.0 k b is;
 }
 
-module _ (laws : RoundLaws) (p : Plan) (a : ActorId) (log : List Line) (servers new : List Serving) (actors : List Actor) (healers : List Healer) (made : ℕ) (line : Line) (x y : Healer) (w : IsWhole p log servers actors healers made)
+module _ {crawl : Bool} (laws : RoundLaws) (p : Plan) (a : ActorId) (log : List Line) (servers new : List Serving) (actors : List Actor) (healers : List Healer) (made : ℕ) (line : Line) (x y : Healer) (w : IsWhole crawl p log servers actors healers made)
     (healer : 17 ≤ a.0) (known : a.0 < 20) (some : 0 < p.shape.n) (is : slice_get healers (a.0 - 17) ≡ Some x) (ready : IsMadeReady x) (room : length log < p.turns) (s : Stepped IsAnswered a (length log) x y servers new line) where
   again : 17 + (a.0 - 17) ≡ a.0
   again = omega (arith, healer)
 
-  mine : IsHealer p log a.0 servers x
-  mine = subst (λ (c : ℕ). IsHealer p log c servers x) again (w.healing.each (a.0 - 17) x is)
+  mine : IsHealer crawl p log a.0 servers x
+  mine = subst (λ (c : ℕ). IsHealer crawl p log c servers x) again (w.healing.each (a.0 - 17) x is)
 
-  pub round_keeps : RoundKeeps p a log line y servers new
-  round_keeps = laws.keeps p a log servers new x y line (before_round p a log servers actors made w.kept healer known some room) mine ready s
+  pub round_keeps : RoundKeeps crawl p a log line y servers new
+  round_keeps = laws.keeps crawl p a log servers new x y line (before_round p a log servers actors made w.kept healer known some room) mine ready s
 
   pub round_wrote : Wrote a line
   round_wrote = to_wrote a line round_keeps.written
@@ -149,7 +149,7 @@ module _ (laws : RoundLaws) (p : Plan) (a : ActorId) (log : List Line) (servers 
       let apart : (a.0 ≡ i + 1 → ⊥) = λ e. absurd (omega (arith, healer, low, e)) in
       others_stay p a (i + 1) line log servers new z round_wrote (differ a.0 (i + 1) apart) (λ r. round_keeps.stands (i + 1) r apart) (λ epochs. round_keeps.found (i + 1) epochs (λ e. apart (sym e))) k
 
-  pub kept_line : IsActor p a.0 → is_killed a.0 log ≡ false → NoneDue p log → IsVolume p (line ∷ log) new actors made
+  pub kept_line : IsActor p a.0 → is_killed a.0 log ≡ false → NoneDue p log → IsVolume crawl p (line ∷ log) new actors made
   kept_line actor alive none = record {
     runnable = w.kept.runnable;
     room = room;
@@ -157,7 +157,7 @@ module _ (laws : RoundLaws) (p : Plan) (a : ActorId) (log : List Line) (servers 
     same = w.kept.same;
     each = λ i z h. client_stays i z (omega (arith, slice_get_within actors i z h, w.kept.same, w.kept.runnable.clients)) (w.kept.each i z h);
     made_is = w.kept.made_is ∙ sym (wrote_made a line log round_wrote);
-    follows = ((room, wrote_due p a line log round_wrote (record { actor = actor; alive = alive; keeps = round_keeps.keeps }) none), w.kept.follows);
+    follows = ((room, wrote_due crawl p a line log round_wrote (record { actor = actor; alive = alive; keeps = round_keeps.keeps }) none), w.kept.follows);
     honest = (round_keeps.honest, w.kept.honest);
     lawful = round_keeps.lawful;
     replied = (round_keeps.replied, w.kept.replied);
@@ -165,7 +165,7 @@ module _ (laws : RoundLaws) (p : Plan) (a : ActorId) (log : List Line) (servers 
     names = (names_no p a line log round_keeps.written, w.kept.names);
   }
 
-  pub kept_round : IsActor p a.0 → is_killed a.0 log ≡ false → NoneDue p log → ArePaced p (line ∷ log) actors (set healers (a.0 - 17) y) → IsWhole p (line ∷ log) new actors (set healers (a.0 - 17) y) made
+  pub kept_round : IsActor p a.0 → is_killed a.0 log ≡ false → NoneDue p log → ArePaced p (line ∷ log) actors (set healers (a.0 - 17) y) → IsWhole crawl p (line ∷ log) new actors (set healers (a.0 - 17) y) made
   kept_round actor alive none paced = record {
     kept = kept_line actor alive none;
     healing = record {
@@ -175,7 +175,7 @@ module _ (laws : RoundLaws) (p : Plan) (a : ActorId) (log : List Line) (servers 
     pacing = paced;
   }
     where
-      each : (i : ℕ) (z : Healer) → slice_get (set healers (a.0 - 17) y) i ≡ Some z → ((a.0 == 17 + i) ≡ true) × (a.0 ≡ 17 + i) ⊎ ((a.0 == 17 + i) ≡ false) × (a.0 ≢ 17 + i) → IsHealer p (line ∷ log) (17 + i) new z
+      each : (i : ℕ) (z : Healer) → slice_get (set healers (a.0 - 17) y) i ≡ Some z → ((a.0 == 17 + i) ≡ true) × (a.0 ≡ 17 + i) ⊎ ((a.0 == 17 + i) ≡ false) × (a.0 ≢ 17 + i) → IsHealer crawl p (line ∷ log) (17 + i) new z
       each i z h (inl e) =
           let at_i : a.0 - 17 ≡ i = omega (arith, e.1) in
           let is_y : z ≡ y = got_same healers (a.0 - 17) y z (slice_get_within healers (a.0 - 17) x is) (rw (← at_i) at h) in
@@ -188,26 +188,26 @@ module _ (laws : RoundLaws) (p : Plan) (a : ActorId) (log : List Line) (servers 
 
 -- ---- a healer is made ready
 module _ (laws : RoundLaws) (p : Plan) (a : ℕ) (log : List Line) (servers : List Serving) (healers new : List Healer) (healer : 17 ≤ a) (few : p.shape.n ≤ 5) (rounds : (k : ℕ) (b : BrickId) → slice_get (rounds_of p a) k ≡ Some b → b.0 < p.shape.n)
-    (k : AreHealers p log servers healers) (r : ReadiedHealerAt p a healers new) where
-  was : IsHealer p log a servers r.before
-  was = (let again : 17 + (a - 17) ≡ a = omega (arith, healer) in subst (λ (c : ℕ). IsHealer p log c servers r.before) again (k.each (a - 17) r.before r.was))
+    (k : AreHealers false p log servers healers) (r : ReadiedHealerAt p a healers new) where
+  was : IsHealer false p log a servers r.before
+  was = (let again : 17 + (a - 17) ≡ a = omega (arith, healer) in subst (λ (c : ℕ). IsHealer false p log c servers r.before) again (k.each (a - 17) r.before r.was))
 
   pub low_brick : r.brick.0 < p.shape.n
   low_brick = rounds r.before.ended r.brick r.present
 
-  begun : IsHealer p log a servers r.after × IsMadeReady r.after
-  begun = laws.begins p a log servers r.brick r.before r.after few (omega (arith, low_brick)) low_brick (rw was.ended_is at r.present) was r.readies
+  begun : IsHealer false p log a servers r.after × IsMadeReady r.after
+  begun = laws.begins false true p a log servers r.brick r.before r.after few (λ idle. (low_brick, Round, rw was.ended_is at r.present)) was r.readies
 
   pub ready_healer : (x : Healer) → slice_get new (a - 17) ≡ Some x → IsMadeReady x
   ready_healer x is = (let same : x ≡ r.after = got_same healers (a - 17) r.after x (slice_get_within healers (a - 17) r.before r.was) (rw r.set_is at is) in subst IsMadeReady (sym same) begun.1)
 
-  pub kept_healer : AreHealers p log servers new
+  pub kept_healer : AreHealers false p log servers new
   kept_healer = record {
     same = ap length r.set_is ∙ length-set healers (a - 17) r.after ∙ k.same;
     each = λ i z h. each i z (rw r.set_is at h) (eqb_tells a (17 + i));
   }
     where
-      each : (i : ℕ) (z : Healer) → slice_get (set healers (a - 17) r.after) i ≡ Some z → ((a == 17 + i) ≡ true) × (a ≡ 17 + i) ⊎ ((a == 17 + i) ≡ false) × (a ≢ 17 + i) → IsHealer p log (17 + i) servers z
+      each : (i : ℕ) (z : Healer) → slice_get (set healers (a - 17) r.after) i ≡ Some z → ((a == 17 + i) ≡ true) × (a ≡ 17 + i) ⊎ ((a == 17 + i) ≡ false) × (a ≢ 17 + i) → IsHealer false p log (17 + i) servers z
       each i z h (inl e) =
           let at_i : a - 17 ≡ i = omega (arith, e.1) in
           let is_after : z ≡ r.after = got_same healers (a - 17) r.after z (slice_get_within healers (a - 17) r.before r.was) (rw (← at_i) at h) in

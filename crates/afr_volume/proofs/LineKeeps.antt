@@ -59,12 +59,12 @@ wrote_own a line (Ends r) = self a.0
 wrote_own a line (Parts g kind) = self a.0
 wrote_own a line (Heals g kind r) = self a.0
 
-pub wrote_due : (p : Plan) (a : ActorId) (line : Line) (log : List Line) → Wrote a line → IsTurnOf p a.0 line log → NoneDue p log → IsDue p line log
-wrote_due p a line log (Asks b r told took) t n = (t, n)
-wrote_due p a line log (Begins c) t n = (t, n)
-wrote_due p a line log (Ends r) t n = (t, n)
-wrote_due p a line log (Parts g kind) t n = (t, n)
-wrote_due p a line log (Heals g kind r) t n = (t, n)
+pub wrote_due : (crawl : Bool) (p : Plan) (a : ActorId) (line : Line) (log : List Line) → Wrote a line → IsTurnOf crawl p a.0 line log → NoneDue p log → IsDue crawl p line log
+wrote_due crawl p a line log (Asks b r told took) t n = (t, n)
+wrote_due crawl p a line log (Begins c) t n = (t, n)
+wrote_due crawl p a line log (Ends r) t n = (t, n)
+wrote_due crawl p a line log (Parts g kind) t n = (t, n)
+wrote_due crawl p a line log (Heals g kind r) t n = (t, n)
 
 pub wrote_made : (a : ActorId) (line : Line) (log : List Line) → Wrote a line → events_made (line ∷ log) ≡ events_made log
 wrote_made a line log (Asks b r told took) = refl
@@ -148,12 +148,12 @@ others_stay p a c line log old new x w e stands found k = record {
 }
 
 -- ---- one line
--- what the line of a client keeps
+-- what the line of a client keeps; it keeps to its command whether the healers crawl or not
 pub record LineKeeps (p : Plan) (a : ActorId) (log : List Line) (line : Line) (y : Actor) (old new : List Serving) : Type 0 where
   pub honest : IsHonest p line log
   pub lawful : IsLawfulExactly p (line ∷ log)
   pub served : AreServed p (line ∷ log) new
-  pub keeps : KeepsToTask p a.0 line log
+  pub keeps : (crawl : Bool) → KeepsToTask crawl p a.0 line log
   pub replied : IsReplied p line log
   pub blamed : Blames p line log
   pub names : IsKept p line log
@@ -169,7 +169,7 @@ some_same c d e = cc e
 pub of_client : (p : Plan) (a : ActorId) (line : Line) (log : List Line) (command : Command) → a.0 ≤ 16 → slice_get (script_of p a.0) (ended a.0 log) ≡ Some command → IsOf p command line (work a.0 log) → IsOfTask p a line log
 of_client p a line log command client present about = record {
   command = λ c is. subst (λ (c : Command). IsOf p c line (work a.0 log)) (some_same command c (sym present ∙ is)) about;
-  round = λ healer b due. absurd (omega (arith, healer, client));
+  round = λ healer. absurd (omega (arith, healer, client));
 }
 
 -- ---- what no command does, no part of a rename does

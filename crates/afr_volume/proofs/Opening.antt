@@ -1,5 +1,5 @@
 -- What a volume keeps before its first line.
-use Rattle.std.proofs.Common.{◌≡◌, ℕ, ◌+◌, List, [], refl, arith, length, sym, ◌∙◌}
+use Rattle.std.proofs.Common.{◌≡◌, ℕ, ◌+◌, List, [], refl, arith, length, sym, ◌∙◌, Bool}
 use Rattle.afr_lines.specs.declared.line.Line.{Line}
 use Rattle.afr_plan.specs.declared.plan.Plan.{Plan}
 use Rattle.afr_server.specs.Serving.{Serving}
@@ -28,7 +28,7 @@ opens_idle p servers a x k = record {
   };
 }
 
-pub fresh_volume : (laws : NewAreServed) (p : Plan) (log : List Line) (servers : List Serving) (actors : List Actor) → CanRun p → log ≡ [] → AreNew p servers → AreNewActors (length p.clients) actors → IsVolume p log servers actors 0
+pub fresh_volume : {crawl : Bool} (laws : NewAreServed) (p : Plan) (log : List Line) (servers : List Serving) (actors : List Actor) → CanRun p → log ≡ [] → AreNew p servers → AreNewActors (length p.clients) actors → IsVolume crawl p log servers actors 0
 fresh_volume laws p log servers actors run none opened idle = rw none (record {
   runnable = run;
   room = omega arith;
@@ -45,15 +45,15 @@ fresh_volume laws p log servers actors run none opened idle = rw none (record {
 })
 
 -- a healer that has begun nothing stands for no line
-opens_resting : (p : Plan) (servers : List Serving) (a : ℕ) (x : Healer) → IsNewHealer x → IsHealer p [] a servers x
+opens_resting : {crawl : Bool} (p : Plan) (servers : List Serving) (a : ℕ) (x : Healer) → IsNewHealer x → IsHealer crawl p [] a servers x
 opens_resting p servers a x k = record {
   ended_is = k.ended;
   killed_is = k.killed;
   carries = rw k.idle (record { unmet = k.met; fresh = refl; none = refl });
 }
 
-pub fresh_whole : (paces : PaceLaws) (laws : NewAreServed) (p : Plan) (log : List Line) (servers : List Serving) (actors : List Actor) (healers : List Healer) → CanRun p → log ≡ [] → AreNew p servers → AreNewActors (length p.clients) actors → AreNewHealers (length p.healers) healers
-    → IsWhole p log servers actors healers 0
+pub fresh_whole : {crawl : Bool} (paces : PaceLaws) (laws : NewAreServed) (p : Plan) (log : List Line) (servers : List Serving) (actors : List Actor) (healers : List Healer) → CanRun p → log ≡ [] → AreNew p servers → AreNewActors (length p.clients) actors → AreNewHealers (length p.healers) healers
+    → IsWhole crawl p log servers actors healers 0
 fresh_whole paces laws p log servers actors healers run none opened idle resting = record {
   kept = fresh_volume laws p log servers actors run none opened idle;
   healing = rw none (record { same = resting.many; each = λ i x h. opens_resting p servers (17 + i) x (resting.each i x h) });

@@ -49,12 +49,12 @@ module _ (paces : PaceLaws) where
     shows_heal true r k i line = subst (λ (place : Place). (in_force (opens place line) (register_by p.shape.n (keeps_in p.shape) a.0 log)).law.heal ≡ true) (sym k.0) (k.1.stands.inside ∙ i)
     shows_heal false r k i line = let none : false ≡ true = sym (ap (λ (r : Register). r.inside) k.1) ∙ i in absurd (cc none)
 
-    module _ (servers new : List Serving) (x y : Healer) (line : Line) (k : IsHealer p log a.0 servers x) (s : Stepped IsAnswered a (length log) x y servers new line) (of : IsOfPlan p (line ∷ log)) where
-      carries : CarriesRound p a.0 log x.visit.met x.visit.epochs servers s.round
-      carries = subst (CarriesIts p a.0 log x.visit.met x.visit.epochs servers) s.present k.carries
+    module _ {crawl : Bool} (servers new : List Serving) (x y : Healer) (line : Line) (k : IsHealer crawl p log a.0 servers x) (s : Stepped IsAnswered a (length log) x y servers new line) (of : IsOfPlan p (line ∷ log)) where
+      carries : CarriesRound crawl p a.0 log x.visit.met x.visit.epochs servers s.round
+      carries = subst (CarriesIts crawl p a.0 log x.visit.met x.visit.epochs servers) s.present k.carries
 
-      in_heal : (b : BrickId) (area : Area) (stage : RoundStage) → StageStands p a.0 log x.visit.met x.visit.epochs servers s.round.round stage → next_at s.round.round.brick stage ≡ next.Ask b (request.Lock WorkDomain area) → (l : Line) → (locks_at p a.0 l log).heal ≡ true
-      in_heal b area Asking c e l = absurd (cc e)
+      in_heal : (b : BrickId) (area : Area) (stage : RoundStage) → StageStands carries.duty p a.0 log x.visit.met x.visit.epochs servers s.round.round stage → next_at s.round.round.brick stage ≡ next.Ask b (request.Lock WorkDomain area) → (l : Line) → (locks_at p a.0 l log).heal ≡ true
+      in_heal b area (Asking heals) c e l = absurd (cc e)
       in_heal b area (At h) c e l = shows_heal x.visit.met h.register c.0.noted (inside h b area c.0.sound e) l
       in_heal b area (Over refused) c e l = absurd (cc e)
 

@@ -1,5 +1,5 @@
 -- A client's turn keeps the pace of all actors.
-use Rattle.std.proofs.Common.{◌≡◌, ◌∙◌, ℕ, ◌+◌, ◌-◌, ◌<◌, ◌≤◌, List, [], ◌∷◌, ◌++◌, sym, arith, subst, length, Some, slice_get, set, reverse}
+use Rattle.std.proofs.Common.{◌≡◌, ◌∙◌, ℕ, ◌+◌, ◌-◌, ◌<◌, ◌≤◌, List, [], ◌∷◌, ◌++◌, Bool, sym, arith, subst, length, Some, slice_get, set, reverse}
 use Rattle.std.proofs.lemmas.List.{length-reverse}
 use Rattle.afr_base.specs.declared.ids.ActorId.{ActorId}
 use Rattle.afr_law_names.specs.Descent.Descent.{IsOfPlan}
@@ -35,11 +35,11 @@ pub other_paced : (p : Plan) (a : ActorId) (c : ℕ) (line : Line) (log : List L
 other_paced p a c line log w wrote apart k = let e = differ a.0 c apart in paced_on p c line log w (other_work a c line log wrote e) (other_ended a c line log wrote e) k
 
 -- what is presumed of a log is kept
-pub is_of_plan : (p : Plan) (log : List Line) (servers : List Serving) (actors : List Actor) (made : ℕ) → IsVolume p log servers actors made → IsOfPlan p log
-is_of_plan p log servers actors made v = record { few = v.runnable.few; short = omega (arith, v.room, v.runnable.turns); follows = v.follows; honest = v.honest; lawful = v.lawful }
+pub is_of_plan : {crawl : Bool} (p : Plan) (log : List Line) (servers : List Serving) (actors : List Actor) (made : ℕ) → IsVolume crawl p log servers actors made → IsOfPlan p log
+is_of_plan {crawl = crawl} p log servers actors made v = record { few = v.runnable.few; short = omega (arith, v.room, v.runnable.turns); crawl = crawl; follows = v.follows; honest = v.honest; lawful = v.lawful }
 
 -- ---- a client's turn
-module _ (paces : PaceLaws) (laws : Laws) (starts : BeginLaws) (p : Plan) (a : ActorId) (items : List Line) (actors readied : List Actor) (servers : List Serving) (made : ℕ) (v : IsVolume p (reverse items) servers actors made) (client : a.0 ≤ 16) (actor : IsActor p a.0)
+module _ {crawl : Bool} (paces : PaceLaws) (laws : Laws) (starts : BeginLaws) (p : Plan) (a : ActorId) (items : List Line) (actors readied : List Actor) (servers : List Serving) (made : ℕ) (v : IsVolume crawl p (reverse items) servers actors made) (client : a.0 ≤ 16) (actor : IsActor p a.0)
     (room : length items < p.turns) (r : ReadiedAt p a.0 actors readied) (healers : List Healer) (k : ArePaced p (reverse items) actors healers) where
   low : 1 ≤ a.0
   low = one laws starts p a items actors readied servers made v client actor room r

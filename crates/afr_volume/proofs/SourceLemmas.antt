@@ -2,6 +2,7 @@
 use Rattle.std.proofs.Common.{◌≡◌, ◌∙◌, ℕ, zero, suc, ◌+◌, ◌-◌, ◌≤◌, ◌==◌, Bool, true, false, List, [], ◌∷◌, Option, Some, None, Result, Ok, Err, OnErr, refl, sym, ap, arith, subst, slice_get, slice_set, replicate, reverse, length, ◌++◌}
 use Rattle.std.proofs.lemmas.Bool.Decides.{nat_tests}
 use Rattle.afr_base.specs.declared.ids.ActorId.{ActorId}
+use Rattle.afr_base.specs.declared.ids.BrickId.{BrickId}
 use Rattle.afr_base.specs.declared.ids.Gfid.{Gfid}
 use Rattle.afr_base.specs.declared.ids.Kind.{Kind}
 use Rattle.afr_heal_round.specs.Rounding.{Rounding}
@@ -13,10 +14,10 @@ use Rattle.afr_lines.specs.declared.line.Line.{Line}
 use Rattle.afr_lines.specs.declared.line.Line.TheVariants as line_of
 use Rattle.afr_lines.specs.declared.reply.HealReply.{HealReply}
 use Rattle.afr_model.specs.Chosen.{Picks}
-use Rattle.afr_model.specs.Following.{Follows, IsFollowing, KeepsToTask, ToCommand, ToRound}
+use Rattle.afr_model.specs.Following.{Follows, IsFollowing, KeepsToTask, ToCommand, ToCrawl, ToItem, ToRound}
 use Rattle.afr_plan.specs.declared.plan.Plan.{Plan}
 use Rattle.afr_healer.specs.Acting.{Hearing, IsNewHealer}
-use Rattle.afr_healer.specs.Keeping.{CarriesIts, HasBegun, IsHealer}
+use Rattle.afr_healer.specs.Keeping.{CarriesIts, Crawls, Duty, HasBegun, IsHealer, IsOnDuty, Rounds, Task}
 use Rattle.afr_healer.specs.declared.healer.Healer.{Healer}
 use Rattle.afr_server.specs.Serving.{Serving}
 use Rattle.afr_servers.specs.declared.epochs.Epochs.{Epochs}
@@ -36,7 +37,7 @@ use Rattle.afr_volume.proofs.PickedLemmas.{killed_picked, new_picked}
 
 -- ---- a healer that is made ready has the source that it had
 pub readied_sources : (p : Plan) (a : ℕ) (healers readied : List Healer) → ReadiedHealerAt p a healers readied → sources_of readied ≡ sources_of healers
-readied_sources p a healers readied r = ap sources_of r.set_is ∙ set_same healers (a - 17) r.before r.after r.was (ready_same p.shape r.brick r.before r.after r.readies)
+readied_sources p a healers readied r = ap sources_of r.set_is ∙ set_same healers (a - 17) r.before r.after r.was (ready_same p.shape true r.brick r.before r.after r.readies)
 
 -- so a volume whose healer was made ready and wrote no line is as before
 pub unwritten : (p : Plan) (a : ℕ) (items kept : List Line) (picked : List (Option ℕ)) (healers readied now : List Healer) → ReadiedHealerAt p a healers readied → now ≡ readied → kept ≡ items
@@ -48,22 +49,24 @@ whatever (Ok x) k = tt
 whatever (Err e) k = k
 
 -- ---- before the first line
-asks_first : (stage : RoundStage) → HasBegun stage [] → source_in stage ≡ None
-asks_first Asking k = refl
-asks_first (Healing h) k = absurd k
-asks_first (Over refused) k = refl
+asks_first : (duty : Duty) (crawl : Bool) (p : Plan) (a : ℕ) (b : BrickId) → IsOnDuty duty crawl p a [] b → (stage : RoundStage) → HasBegun duty stage [] → source_in stage ≡ None
+asks_first duty crawl p a b on (Asking heals) k = refl
+asks_first duty crawl p a b on (Over refused) k = refl
+asks_first Rounds crawl p a b on (Healing h) k = absurd k
+asks_first Crawls crawl p a b on (Healing h) k = absurd k
+asks_first (Task item) crawl p a b on (Healing h) k = absurd on.2
 
-rests : (p : Plan) (a : ℕ) (met : Bool) (epochs : Epochs) (servers : List Serving) (r : Option Rounding) → CarriesIts p a [] met epochs servers r → source_at r ≡ None
-rests p a met epochs servers None k = refl
-rests p a met epochs servers (Some m) k = asks_first m.stage k.begun
+rests : (crawl : Bool) (p : Plan) (a : ℕ) (met : Bool) (epochs : Epochs) (servers : List Serving) (r : Option Rounding) → CarriesIts crawl p a [] met epochs servers r → source_at r ≡ None
+rests crawl p a met epochs servers None k = refl
+rests crawl p a met epochs servers (Some m) k = asks_first k.duty crawl p a m.round.brick k.present m.stage k.begun
 
 all_none : (l : List Healer) → ((i : ℕ) (x : Healer) → slice_get l i ≡ Some x → picked_source x ≡ None) → sources_of l ≡ replicate (length l) None
 all_none [] each = refl
 all_none (x ∷ l) each = rw (each 0 x refl) (ap (λ (rest : List (Option ℕ)). None ∷ rest) (all_none l (λ i y h. each (suc i) y h)))
 
-pub all_rest_first : (p : Plan) (log : List Line) (servers : List Serving) (healers : List Healer) → length healers ≡ length p.healers → ((i : ℕ) (x : Healer) → slice_get healers i ≡ Some x → IsHealer p log (17 + i) servers x) → log ≡ []
+pub all_rest_first : {crawl : Bool} (p : Plan) (log : List Line) (servers : List Serving) (healers : List Healer) → length healers ≡ length p.healers → ((i : ℕ) (x : Healer) → slice_get healers i ≡ Some x → IsHealer crawl p log (17 + i) servers x) → log ≡ []
     → sources_of healers ≡ replicate (length p.healers) None
-all_rest_first p log servers healers same each none = rw (← same) (all_none healers (λ i x h. let k : IsHealer p [] (17 + i) servers x = rw none at (each i x h) in rests p (17 + i) x.visit.met x.visit.epochs servers x.round k.carries))
+all_rest_first {crawl = crawl} p log servers healers same each none = rw (← same) (all_none healers (λ i x h. let k : IsHealer crawl p [] (17 + i) servers x = rw none at (each i x h) in rests crawl p (17 + i) x.visit.met x.visit.epochs servers x.round k.carries))
 
 pub rested_state : (p : Plan) (log : List Line) (sources picked : List (Option ℕ)) → log ≡ [] → sources ≡ replicate (length p.healers) None → picked ≡ replicate (length p.clients) None
     → record { plan = p; log = log; sources = sources; picked = picked } ≡ opened p
@@ -86,36 +89,38 @@ own_of a (line_of.End x r) own c = let same : x.0 ≡ a = grind (arith, nat_test
 own_of a (line_of.HealEnd x g kind r) own c = let same : x.0 ≡ a = grind (arith, nat_tests, own) in rw same refl
 own_of a (line_of.Event event) own c = absurd (cc own)
 
-unended : (p : Plan) (x : ActorId) (g : Gfid) (kind : Kind) (said : HealReply) (log : List Line) → x.0 ≤ 16 → KeepsToTask p x.0 (line_of.HealEnd x g kind said) log → ⊥
-unended p x g kind said log small (ToCommand c is k) = ends_none p c x g kind said (length log) (work x.0 log) k
-unended p x g kind said log small (ToRound low b is k) = absurd (omega (arith, small, low))
+unended : (crawl : Bool) (p : Plan) (x : ActorId) (g : Gfid) (kind : Kind) (said : HealReply) (log : List Line) → x.0 ≤ 16 → KeepsToTask crawl p x.0 (line_of.HealEnd x g kind said) log → ⊥
+unended crawl p x g kind said log small (ToCommand c is k) = ends_none p c x g kind said (length log) (work x.0 log) k
+unended crawl p x g kind said log small (ToRound plain low b is k) = absurd (omega (arith, small, low))
+unended crawl p x g kind said log small (ToCrawl crawls first b is k) = absurd (omega (arith, small, first))
+unended crawl p x g kind said log small (ToItem crawls low item given k) = absurd (omega (arith, small, low))
 
-client_unended : (p : Plan) (a : ℕ) (line : Line) (log : List Line) → a ≤ 16 → is_of a line ≡ true → IsFollowing p line log → ends_heal line ≡ false
-client_unended p a (line_of.Ask x b r told took) log small own k = refl
-client_unended p a (line_of.Begin x change) log small own k = refl
-client_unended p a (line_of.HealBegin x g kind) log small own k = refl
-client_unended p a (line_of.End x r) log small own k = refl
-client_unended p a (line_of.HealEnd x g kind r) log small own k = let same : x.0 ≡ a = grind (arith, nat_tests, own) in absurd (unended p x g kind r log (omega (arith, same, small)) k.1.0.keeps)
-client_unended p a (line_of.Event event) log small own k = refl
+client_unended : (crawl : Bool) (p : Plan) (a : ℕ) (line : Line) (log : List Line) → a ≤ 16 → is_of a line ≡ true → IsFollowing crawl p line log → ends_heal line ≡ false
+client_unended crawl p a (line_of.Ask x b r told took) log small own k = refl
+client_unended crawl p a (line_of.Begin x change) log small own k = refl
+client_unended crawl p a (line_of.HealBegin x g kind) log small own k = refl
+client_unended crawl p a (line_of.End x r) log small own k = refl
+client_unended crawl p a (line_of.HealEnd x g kind r) log small own k = let same : x.0 ≡ a = grind (arith, nat_tests, own) in absurd (unended crawl p x g kind r log (omega (arith, same, small)) k.1.0.keeps)
+client_unended crawl p a (line_of.Event event) log small own k = refl
 
 -- sources that are the same at each place
 same_sources : (picks : Picks) (p : Plan) (log : List Line) (old new : List (Option ℕ)) → ((i : ℕ) → slice_get new i ≡ slice_get old i) → AreChosen picks p log old → AreChosen picks p log new
 same_sources picks p log old new same k = record { past = k.past; present = λ i source is. k.present i source (sym (same i) ∙ is) }
 
-client_adds : (picks : Picks) (a : ActorId) (old new : State) (waits : Option ActorId) → a.0 ≤ 16 → AddsLine a old waits new → Follows new.plan new.log → HealsChosen picks old → HealsChosen picks new
-client_adds picks a old new waits small h follows k =
+client_adds : (crawl : Bool) (picks : Picks) (a : ActorId) (old new : State) (waits : Option ActorId) → a.0 ≤ 16 → AddsLine a old waits new → Follows crawl new.plan new.log → HealsChosen picks old → HealsChosen picks new
+client_adds crawl picks a old new waits small h follows k =
     let plan : new.plan ≡ old.plan = h.plan in
     let added : new.log ≡ h.line ∷ old.log = h.added in
-    let f : Follows old.plan (h.line ∷ old.log) = rw (plan, added) at follows in
+    let f : Follows crawl old.plan (h.line ∷ old.log) = rw (plan, added) at follows in
     rw (plan, added)
     (same_sources picks old.plan (h.line ∷ old.log) old.sources new.sources (λ i. h.others i (λ same. absurd (omega (arith, small, same))))
-    (client_keeps picks old.plan old.log old.sources a h.line small (own_of a.0 h.line h.own) (client_unended old.plan a.0 h.line old.log small h.own f.0) k))
+    (client_keeps picks old.plan old.log old.sources a h.line small (own_of a.0 h.line h.own) (client_unended crawl old.plan a.0 h.line old.log small h.own f.0) k))
 
-pub client_turn : (picks : Picks) (a : ActorId) (old new : State) (turned : Turned) → a.0 ≤ 16 → Turns a old turned new → Follows new.plan new.log → HealsChosen picks old → HealsChosen picks new
-client_turn picks a old new Moved small h follows k = client_adds picks a old new None small h follows k
-client_turn picks a old new (Waits owner) small h follows k = client_adds picks a old new (Some owner) small h follows k
-client_turn picks a old new Ended small h follows k = subst (HealsChosen picks) (sym h.1) k
-client_turn picks a old new Full small h follows k = subst (HealsChosen picks) (sym h.2) k
+pub client_turn : (crawl : Bool) (picks : Picks) (a : ActorId) (old new : State) (turned : Turned) → a.0 ≤ 16 → Turns a old turned new → Follows crawl new.plan new.log → HealsChosen picks old → HealsChosen picks new
+client_turn crawl picks a old new Moved small h follows k = client_adds crawl picks a old new None small h follows k
+client_turn crawl picks a old new (Waits owner) small h follows k = client_adds crawl picks a old new (Some owner) small h follows k
+client_turn crawl picks a old new Ended small h follows k = subst (HealsChosen picks) (sym h.1) k
+client_turn crawl picks a old new Full small h follows k = subst (HealsChosen picks) (sym h.2) k
 
 -- ---- a healer's line leaves the sources of the other healers
 other_set : (l : List (Option ℕ)) (i j : ℕ) (y : Option ℕ) → (i ≡ j → ⊥) → slice_get (slice_set l j y) i ≡ slice_get l i

@@ -77,11 +77,12 @@ module _ (laws : Laws) (p : Plan) (a : ActorId) (log : List Line) (servers : Lis
       by_next (next.HealEnd g kind said) e s = absurd s
 
 -- ---- the whole volume
-pub before_turn : (p : Plan) (a : ActorId) (log : List Line) (servers : List Serving) (actors : List Actor) (made : ℕ) → IsVolume p log servers actors made → a.0 ≤ 16 → IsActor p a.0 → length log < p.turns → IsBefore p a log servers
-before_turn p a log servers actors made v client actor room = record {
+pub before_turn : {crawl : Bool} (p : Plan) (a : ActorId) (log : List Line) (servers : List Serving) (actors : List Actor) (made : ℕ) → IsVolume crawl p log servers actors made → a.0 ≤ 16 → IsActor p a.0 → length log < p.turns → IsBefore p a log servers
+before_turn {crawl = crawl} p a log servers actors made v client actor room = record {
   runnable = v.runnable;
   room = room;
   served = v.served;
+  crawl = crawl;
   follows = v.follows;
   honest = v.honest;
   lawful = v.lawful;
@@ -89,17 +90,17 @@ before_turn p a log servers actors made v client actor room = record {
   client = (client_is p a.0 v.runnable client actor).2;
 }
 
-pub kept_turn : (laws : Laws) (p : Plan) (a : ActorId) (log : List Line) (x y : Actor) (servers new : List Serving) (actors : List Actor) (made : ℕ) (line : Line)
-    → IsVolume p log servers actors made → a.0 ≤ 16 → IsActor p a.0 → slice_get actors (a.0 - 1) ≡ Some x → IsBusy x.work → is_killed a.0 log ≡ false → length log < p.turns → NoneDue p log
-    → Stepped HearsAny a (length log) x y servers new line → IsVolume p (line ∷ log) new (set actors (a.0 - 1) y) made
-kept_turn laws p a log x y servers new actors made line v client actor is busy alive room none s = record {
+pub kept_turn : {crawl : Bool} (laws : Laws) (p : Plan) (a : ActorId) (log : List Line) (x y : Actor) (servers new : List Serving) (actors : List Actor) (made : ℕ) (line : Line)
+    → IsVolume crawl p log servers actors made → a.0 ≤ 16 → IsActor p a.0 → slice_get actors (a.0 - 1) ≡ Some x → IsBusy x.work → is_killed a.0 log ≡ false → length log < p.turns → NoneDue p log
+    → Stepped HearsAny a (length log) x y servers new line → IsVolume crawl p (line ∷ log) new (set actors (a.0 - 1) y) made
+kept_turn {crawl = crawl} laws p a log x y servers new actors made line v client actor is busy alive room none s = record {
   runnable = v.runnable;
   room = room;
   served = keeps.served;
   same = length-set actors (a.0 - 1) y ∙ v.same;
   each = λ i z h. each i z h (eqb_tells a.0 (i + 1));
   made_is = v.made_is ∙ sym (wrote_made a line log keeps.wrote);
-  follows = ((room, wrote_due p a line log keeps.wrote (record { actor = actor; alive = alive; keeps = keeps.keeps }) none), v.follows);
+  follows = ((room, wrote_due crawl p a line log keeps.wrote (record { actor = actor; alive = alive; keeps = keeps.keeps crawl }) none), v.follows);
   honest = (keeps.honest, v.honest);
   lawful = keeps.lawful;
   replied = (keeps.replied, v.replied);
@@ -174,7 +175,7 @@ readied laws p log a servers x z run some k (inr r) sound = subst (λ (z : Actor
   };
 })
 
-pub kept_ready : (laws : BeginLaws) (p : Plan) (log : List Line) (servers : List Serving) (actors new : List Actor) (made : ℕ) (a : ℕ) → 1 ≤ a → 0 < p.shape.n → IsVolume p log servers actors made → ReadiedAt p a actors new → IsVolume p log servers new made
+pub kept_ready : {crawl : Bool} (laws : BeginLaws) (p : Plan) (log : List Line) (servers : List Serving) (actors new : List Actor) (made : ℕ) (a : ℕ) → 1 ≤ a → 0 < p.shape.n → IsVolume crawl p log servers actors made → ReadiedAt p a actors new → IsVolume crawl p log servers new made
 kept_ready laws p log servers actors new made a one some v r = record {
   runnable = v.runnable;
   room = v.room;

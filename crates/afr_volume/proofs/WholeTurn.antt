@@ -77,7 +77,7 @@ same_ended p a x z (inl e) = ap (λ (y : Actor). y.ended) e
 same_ended p a x z (inr r) = ap (λ (y : Actor). y.ended) r.3
 
 -- an actor that was made ready has a command, and its count can rise
-pub busy_at : (p : Plan) (a : ℕ) (log : List Line) (servers : List Serving) (actors readied : List Actor) (made : ℕ) → 1 ≤ a → IsVolume p log servers actors made → ReadiedAt p a actors readied
+pub busy_at : {crawl : Bool} (p : Plan) (a : ℕ) (log : List Line) (servers : List Serving) (actors readied : List Actor) (made : ℕ) → 1 ≤ a → IsVolume crawl p log servers actors made → ReadiedAt p a actors readied
     → (x : Actor) → slice_get readied (a - 1) ≡ Some x → IsBusy x.work × (x.ended < 4294967295)
 busy_at p a log servers actors readied made one v r x is =
     let same : x ≡ r.after = got_same actors (a - 1) r.after x (slice_get_within actors (a - 1) r.before r.was) (rw r.set_is at is) in
@@ -87,7 +87,7 @@ busy_at p a log servers actors readied made one v r x is =
     (subst (λ (y : Actor). IsBusy y.work) (sym same) r.busy, rw same (omega (arith, same_ended p a r.before r.after r.readies, count, ended_le a log, v.room, v.runnable.turns)))
 
 -- a client that isn't done has a command left
-pub left_at : (p : Plan) (a : ℕ) (items : List Line) (servers : List Serving) (actors : List Actor) (made : ℕ) → IsVolume p (reverse items) servers actors made → a ≤ 16 → IsActor p a → is_done p a (reverse items) ≡ false
+pub left_at : {crawl : Bool} (p : Plan) (a : ℕ) (items : List Line) (servers : List Serving) (actors : List Actor) (made : ℕ) → IsVolume crawl p (reverse items) servers actors made → a ≤ 16 → IsActor p a → is_done p a (reverse items) ≡ false
     → (x : Actor) → slice_get actors (a - 1) ≡ Some x → x.ended < length (script_of p a)
 left_at p a items servers actors made v client actor left x is =
     let one : 1 ≤ a = (client_is p a v.runnable client actor).0 in
@@ -97,15 +97,15 @@ left_at p a items servers actors made v client actor left x is =
     rw count (work_left p a (reverse items) client left)
 
 -- the plan has a brick where it has a client
-pub some_brick : (p : Plan) (log : List Line) (servers : List Serving) (actors : List Actor) (made : ℕ) (a : ℕ) → IsVolume p log servers actors made → a ≤ 16 → IsActor p a → 0 < p.shape.n
+pub some_brick : {crawl : Bool} (p : Plan) (log : List Line) (servers : List Serving) (actors : List Actor) (made : ℕ) (a : ℕ) → IsVolume crawl p log servers actors made → a ≤ 16 → IsActor p a → 0 < p.shape.n
 some_brick p log servers actors made a v client actor = let low = (client_is p a v.runnable client actor).0 in let high = (client_is p a v.runnable client actor).1 in v.runnable.some (omega (arith, low, high))
 
-module _ (laws : Laws) (starts : BeginLaws) (p : Plan) (a : ActorId) (items : List Line) (actors readied : List Actor) (servers : List Serving) (made : ℕ) (v : IsVolume p (reverse items) servers actors made) (client : a.0 ≤ 16) (actor : IsActor p a.0) (room : length items < p.turns)
+module _ {crawl : Bool} (laws : Laws) (starts : BeginLaws) (p : Plan) (a : ActorId) (items : List Line) (actors readied : List Actor) (servers : List Serving) (made : ℕ) (v : IsVolume crawl p (reverse items) servers actors made) (client : a.0 ≤ 16) (actor : IsActor p a.0) (room : length items < p.turns)
     (r : ReadiedAt p a.0 actors readied) where
   pub one : 1 ≤ a.0
   one = (client_is p a.0 v.runnable client actor).0
 
-  pub ready_volume : IsVolume p (reverse items) servers readied made
+  pub ready_volume : IsVolume crawl p (reverse items) servers readied made
   ready_volume = kept_ready starts p (reverse items) servers actors readied made a.0 one (some_brick p (reverse items) servers actors made a.0 v client actor) v r
 
   few : length (reverse items) < p.turns
@@ -126,7 +126,7 @@ module _ (laws : Laws) (starts : BeginLaws) (p : Plan) (a : ActorId) (items : Li
 
   -- ---- the turn
   pub record Took (added : List Line) (new_servers : List Serving) (new_actors : List Actor) (line : Line) : Type 0 where
-    pub volume : IsVolume p (reverse added) new_servers new_actors made
+    pub volume : IsVolume crawl p (reverse added) new_servers new_actors made
     pub own : is_of a.0 line ≡ true
     pub log : reverse added ≡ line ∷ reverse items
     pub wrote : Wrote a line
@@ -134,11 +134,11 @@ module _ (laws : Laws) (starts : BeginLaws) (p : Plan) (a : ActorId) (items : Li
     pub found : (c : ℕ) (epochs : Epochs) → c ≢ a.0 → AreFound c epochs servers → AreFound c epochs new_servers
 
   -- with the healers, which the line leaves as they were
-  pub whole : (rounds : RoundLaws) (healers : List Healer) (added : List Line) (new_servers : List Serving) (new_actors : List Actor) (line : Line) → Took added new_servers new_actors line → AreHealers p (reverse items) servers healers
-      → ArePaced p (reverse added) new_actors healers → IsWhole p (reverse added) new_servers new_actors healers made
+  pub whole : (rounds : RoundLaws) (healers : List Healer) (added : List Line) (new_servers : List Serving) (new_actors : List Actor) (line : Line) → Took added new_servers new_actors line → AreHealers crawl p (reverse items) servers healers
+      → ArePaced p (reverse added) new_actors healers → IsWhole crawl p (reverse added) new_servers new_actors healers made
   whole rounds healers added new_servers new_actors line t k paced = record {
     kept = t.volume;
-    healing = subst (λ (log : List Line). AreHealers p log new_servers healers) (sym t.log) (healers_stay rounds p a line (reverse items) servers new_servers healers client t.wrote t.stands t.found k);
+    healing = subst (λ (log : List Line). AreHealers crawl p log new_servers healers) (sym t.log) (healers_stay rounds p a line (reverse items) servers new_servers healers client t.wrote t.stands t.found k);
     pacing = paced;
   }
 
@@ -159,7 +159,7 @@ module _ (laws : Laws) (starts : BeginLaws) (p : Plan) (a : ActorId) (items : Li
       keeps : LineKeeps p a (reverse items) line s.after servers new_servers
       keeps = line_keeps laws p a (reverse items) servers before s.before s.after new_servers line (busy s.before s.was).0 (mine s.before s.was) stepped
 
-      kept : IsVolume p (line ∷ reverse items) new_servers (set readied (a.0 - 1) s.after) made
+      kept : IsVolume crawl p (line ∷ reverse items) new_servers (set readied (a.0 - 1) s.after) made
       kept = kept_turn laws p a (reverse items) s.before s.after servers new_servers readied made line ready_volume client actor s.was (busy s.before s.was).0 (not_killed p a.0 (reverse items) left) few
           (none_due p (reverse items) few none) stepped
 
@@ -175,7 +175,7 @@ pub client_there : (p : Plan) (a : ℕ) (actors : List Actor) → CanRun p → l
 client_there p a actors run same client actor = let low = (client_is p a run client actor).0 in let high = (client_is p a run client actor).1 in omega (arith, low, high, same)
 
 -- ---- a client is done where it was killed, or where it has ended its script
-module _ (p : Plan) (a : ℕ) (log : List Line) (servers : List Serving) (actors : List Actor) (made : ℕ) (v : IsVolume p log servers actors made) (client : a ≤ 16) (actor : IsActor p a) (x : Actor) (is : slice_get actors (a - 1) ≡ Some x) where
+module _ {crawl : Bool} (p : Plan) (a : ℕ) (log : List Line) (servers : List Serving) (actors : List Actor) (made : ℕ) (v : IsVolume crawl p log servers actors made) (client : a ≤ 16) (actor : IsActor p a) (x : Actor) (is : slice_get actors (a - 1) ≡ Some x) where
   acts : IsActing p log a servers x
   acts = let one : 1 ≤ a = (client_is p a v.runnable client actor).0 in let e : (a - 1) + 1 ≡ a = omega (arith, one) in subst (λ (c : ℕ). IsActing p log c servers x) e (v.each (a - 1) x is)
 
@@ -221,7 +221,7 @@ some_actor [] i small = absurd (omega (arith, small))
 some_actor (x ∷ actors) zero small = (x, refl)
 some_actor (x ∷ actors) (suc i) small = some_actor actors i (omega (arith, small))
 
-pub settled : (p : Plan) (log : List Line) (servers : List Serving) (actors : List Actor) (made : ℕ) → IsVolume p log servers actors made → (a : ℕ) → a ≤ 16 → IsActor p a → is_done p a log ≡ true → is_killed a log ≡ false → work a log ≡ []
+pub settled : {crawl : Bool} (p : Plan) (log : List Line) (servers : List Serving) (actors : List Actor) (made : ℕ) → IsVolume crawl p log servers actors made → (a : ℕ) → a ≤ 16 → IsActor p a → is_done p a log ≡ true → is_killed a log ≡ false → work a log ≡ []
 settled p log servers actors made v a client actor done alive = with_command p a log x.0.visit.met x.0.visit.epochs servers x.0.work few mine.carries
   where
     bounds : (1 ≤ a) × (a ≤ length p.clients) × (a ≤ 16)

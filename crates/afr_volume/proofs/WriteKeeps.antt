@@ -174,7 +174,7 @@ module _ (laws : Laws) (p : Plan) (a : ActorId) (log : List Line) (servers : Lis
       honest = tt;
       lawful = comes.lawful before.lawful;
       served = begin_goes.served;
-      keeps = ToCommand c.command c.present about.1;
+      keeps = λ crawl. ToCommand c.command c.present about.1;
       replied = of_client p a begin_line log c.command before.client c.present about.0;
       blamed = tt;
       names = laws.telling.names p c.command x.work a change log c.sound c.tells e;
@@ -203,7 +203,7 @@ module _ (laws : Laws) (p : Plan) (a : ActorId) (log : List Line) (servers : Lis
       honest = tt;
       lawful = ends.0.lawful before.lawful;
       served = end_goes.served;
-      keeps = ToCommand c.command c.present answered.1;
+      keeps = λ crawl. ToCommand c.command c.present answered.1;
       replied = of_client p a end_line log c.command before.client c.present answered.0;
       blamed = tt;
       names = tt;

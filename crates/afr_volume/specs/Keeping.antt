@@ -100,14 +100,14 @@ pub record IsActing (p : Plan) (log : List Line) (a : ℕ) (servers : List Servi
   pub reads : IsReading p a log x.visit.met x.picked x.work
 
 -- what the log says of the servers, the clients and the counts that the volume keeps beside it
-pub record IsVolume (p : Plan) (log : List Line) (servers : List Serving) (actors : List Actor) (made : ℕ) : Type 0 where
+pub record IsVolume (crawl : Bool) (p : Plan) (log : List Line) (servers : List Serving) (actors : List Actor) (made : ℕ) : Type 0 where
   pub runnable : CanRun p
   pub room : length log ≤ p.turns
   pub served : AreServed p log servers
   pub same : length actors ≡ length p.clients
   pub each : (i : ℕ) (x : Actor) → slice_get actors i ≡ Some x → IsActing p log (i + 1) servers x
   pub made_is : made ≡ events_made log
-  pub follows : Follows p log
+  pub follows : Follows crawl p log
   pub honest : Honest p log
   pub lawful : IsLawfulExactly p log
   pub replied : Replied p log
@@ -115,12 +115,12 @@ pub record IsVolume (p : Plan) (log : List Line) (servers : List Serving) (actor
   pub names : AreKept p log
 
 -- healers are what their lines say
-pub record AreHealers (p : Plan) (log : List Line) (servers : List Serving) (healers : List Healer) : Type 0 where
+pub record AreHealers (crawl : Bool) (p : Plan) (log : List Line) (servers : List Serving) (healers : List Healer) : Type 0 where
   pub same : length healers ≡ length p.healers
-  pub each : (i : ℕ) (x : Healer) → slice_get healers i ≡ Some x → IsHealer p log (17 + i) servers x
+  pub each : (i : ℕ) (x : Healer) → slice_get healers i ≡ Some x → IsHealer crawl p log (17 + i) servers x
 
 -- and of the healers; and all keep their pace
-pub record IsWhole (p : Plan) (log : List Line) (servers : List Serving) (actors : List Actor) (healers : List Healer) (made : ℕ) : Type 0 where
-  pub kept : IsVolume p log servers actors made
-  pub healing : AreHealers p log servers healers
+pub record IsWhole (crawl : Bool) (p : Plan) (log : List Line) (servers : List Serving) (actors : List Actor) (healers : List Healer) (made : ℕ) : Type 0 where
+  pub kept : IsVolume crawl p log servers actors made
+  pub healing : AreHealers crawl p log servers healers
   pub pacing : ArePaced p log actors healers

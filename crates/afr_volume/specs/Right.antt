@@ -1,5 +1,5 @@
 -- What a volume keeps of its log at every moment, and what the rules have picked.
-use Rattle.std.specs.Prelude.{List}
+use Rattle.std.specs.Prelude.{false, List}
 use Rattle.afr_law_promises.specs.Available.Available.{IsAvailable}
 use Rattle.afr_law_bound.specs.Ends.Cost.{AreWithinCost}
 use Rattle.afr_law_passes.specs.Converged.{HasConverged, IsQuietLeft}
@@ -39,7 +39,7 @@ use Rattle.afr_volume.specs.State.{IsChosen, State}
 -- and no lock outlived its work or its heal; and a file's old name was never given up before its new one was stored at a
 -- majority
 pub record IsRight (p : Plan) (log : List Line) : Type 0 where
-  pub follows : Follows p log
+  pub follows : Follows false p log
   pub honest : Honest p log
   pub lawful : IsLawfulExactly p log
   pub replied : Replied p log

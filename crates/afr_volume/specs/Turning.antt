@@ -90,7 +90,7 @@ pub record ReadiedHealerAt (p : Plan) (a : ℕ) (old new : List Healer) : Type 0
   pub was : slice_get old (a - 17) ≡ Some before
   pub brick : BrickId
   pub present : slice_get (rounds_of p a) before.ended ≡ Some brick
-  pub readies : rounds.Readies p.shape brick before after
+  pub readies : rounds.Readies p.shape true brick before after
   pub set_is : new ≡ slice_set old (a - 17) after
 
 -- one line of one healer among all, whose round has begun

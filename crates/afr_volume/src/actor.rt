@@ -173,15 +173,16 @@ fn asks<G: Fn(&[Candidate]) -> usize>(
     let met = actor.visit.met;
     let visit = &mut actor.visit;
     let work = &actor.work;
-    // The answer is told and heard where it lies: it is large, and neither `?` nor a branch is to move it.
-    let mut asked = visit.ask(a, brick, request, work.load(), servers);
-    match &mut asked {
-        Ok(given) => {
-            tells(actor, met, a, brick, request, given, position, log, rule);
-            Ok(())
-        }
-        Err(_) => Err(NoMemory),
-    }
+    // The answer is told and heard where it lies: it is large, and is not to be moved.
+    let mut given = Served {
+        answer: Answer::Done,
+        took: false,
+    };
+    visit.ask(a, brick, request, work.load(), servers, &mut given)?;
+    tells(
+        actor, met, a, brick, request, &mut given, position, log, rule,
+    );
+    Ok(())
 }
 
 /// A first line that is no request meets every brick, too. It asks no rule.

@@ -51,7 +51,7 @@ pub(crate) fn ready_healer(
     let at = a.0 as usize - HEALERS_FROM;
     let rounds = plan.healers.item(at);
     let brick = *rounds.item(healers[at].ended as usize);
-    ready_round(alloc, plan.shape, brick, &mut healers[at])?;
+    ready_round(alloc, plan.shape, true, brick, &mut healers[at])?;
     Ok(())
 }
 

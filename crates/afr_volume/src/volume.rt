@@ -64,7 +64,7 @@ pub struct Volume {
 }
 
 impl Model for Volume {
-    ghost use Rattle.std.specs.Prelude.{reverse};
+    ghost use Rattle.std.specs.Prelude.{false, reverse};
     ghost use Rattle.afr_law_picks.specs.Sources.Sources.{sources_of};
     ghost use Rattle.afr_volume.specs.Acting.{picked_of};
     ghost use Rattle.afr_volume.specs.Keeping.{IsWhole};
@@ -74,7 +74,7 @@ impl Model for Volume {
 
     ghost view = { λ v. record { plan = v.plan; log = reverse v.log.items; sources = sources_of v.healers.items; picked = picked_of v.actors.items } };
 
-    ghost invariant = { λ v. IsWhole v.plan (reverse v.log.items) v.servers v.actors.items v.healers.items v.made };
+    ghost invariant = { λ v. IsWhole false v.plan (reverse v.log.items) v.servers v.actors.items v.healers.items v.made };
 }
 
 impl Volume {

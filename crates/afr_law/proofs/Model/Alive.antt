@@ -22,9 +22,9 @@ kill_ends x b (HealBegin y g kind) k = absurd (true≢false (sym k))
 kill_ends x b (End y said) k = absurd (true≢false (sym k))
 kill_ends x b (HealEnd y g kind said) k = absurd (true≢false (sym k))
 
-pub killed_apart : (p : Plan) (x b : ℕ) (log : List Line) → Follows p log → is_killed x log ≡ true → is_joined p x b log ≡ false
-killed_apart p x b [] f e = absurd (true≢false (sym e))
-killed_apart p x b (line ∷ older) f e = go (kills x line) refl (is_killed x older) refl e (λ k. killed_apart p x b older f.1 k)
+pub killed_apart : (crawl : Bool) (p : Plan) (x b : ℕ) (log : List Line) → Follows crawl p log → is_killed x log ≡ true → is_joined p x b log ≡ false
+killed_apart crawl p x b [] f e = absurd (true≢false (sym e))
+killed_apart crawl p x b (line ∷ older) f e = go (kills x line) refl (is_killed x older) refl e (λ k. killed_apart crawl p x b older f.1 k)
   where
     ended : (live end : Bool) → end ≡ true → (live && not end) ≡ false
     ended true end k = rw k refl
@@ -34,7 +34,7 @@ killed_apart p x b (line ∷ older) f e = go (kills x line) refl (is_killed x ol
     quiet was new end k l = rw (k, l) refl
 
     unopened : (mine : Bool) → is_of x line ≡ mine → is_killed x older ≡ true → opens_with p x b line older ≡ false
-    unopened true g dead = absurd (true≢false (sym dead ∙ (turn_of p x line older g f).alive))
+    unopened true g dead = absurd (true≢false (sym dead ∙ (turn_of crawl p x line older g f).alive))
     unopened false g dead = rw g refl
 
     go : (k : Bool) → kills x line ≡ k → (d : Bool) → is_killed x older ≡ d → (k || d) ≡ true → (is_killed x older ≡ true → is_joined p x b older ≡ false) → is_joined p x b (line ∷ older) ≡ false
@@ -43,9 +43,9 @@ killed_apart p x b (line ∷ older) f e = go (kills x line) refl (is_killed x ol
     go false k false g h rest = absurd (true≢false (sym h))
 
 -- so who has one lives
-pub joined_alive : (p : Plan) (x b : ℕ) (log : List Line) → Follows p log → is_joined p x b log ≡ true → is_killed x log ≡ false
-joined_alive p x b log f e = go (is_killed x log) refl
+pub joined_alive : (crawl : Bool) (p : Plan) (x b : ℕ) (log : List Line) → Follows crawl p log → is_joined p x b log ≡ true → is_killed x log ≡ false
+joined_alive crawl p x b log f e = go (is_killed x log) refl
   where
     go : (d : Bool) → is_killed x log ≡ d → is_killed x log ≡ false
-    go true k = absurd (true≢false (sym e ∙ killed_apart p x b log f k))
+    go true k = absurd (true≢false (sym e ∙ killed_apart crawl p x b log f k))
     go false k = k

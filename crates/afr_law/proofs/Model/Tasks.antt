@@ -16,7 +16,7 @@ use Rattle.afr_lines.specs.declared.reply.HealReply.{HealReply}
 use Rattle.afr_law.proofs.Heals.Opening.{ended as after_end}
 use Rattle.afr_model.specs.Actors.{IsActor, rounds_of, script_of, works_of}
 use Rattle.afr_model.specs.Answered.{IsAbout}
-use Rattle.afr_model.specs.Following.{Follows, IsTurnOf, KeepsToCommand, KeepsToTask, ToCommand, ToRound}
+use Rattle.afr_model.specs.Following.{Follows, IsTurnOf, KeepsToCommand, KeepsToTask, ToCommand, ToCrawl, ToItem, ToRound}
 use Rattle.afr_model.specs.Keeping.{KeepsTo}
 use Rattle.afr_model.specs.Parts.{Part, Walks, Makes, Removes, part_at, the_walk, the_make, the_removal}
 use Rattle.afr_model.specs.Renamed.{IsOfPart, KeepsToPart}
@@ -36,13 +36,13 @@ pub no_script : (p : Plan) (a k : ℕ) (c : Command) → length p.clients ≤ 16
 no_script p a k c few high e = (let none : script_of p a ≡ [] = past_end p.clients (a - 1) (omega (arith, few, high)) in let l : slice_get [] k ≡ Some c = subst (λ (s : List Command). slice_get s k ≡ Some c) none e in cc)
 
 -- it is the actor's turn
-pub turn_of : (p : Plan) (a : ℕ) (line : Line) (older : List Line) → is_of a line ≡ true → Follows p (line ∷ older) → IsTurnOf p a line older
-turn_of p a (Ask x b r told took) older mine f = subst (λ (k : ℕ). IsTurnOf p k (Ask x b r told took) older) (eqb-true x.0 a mine) f.0.1.0
-turn_of p a (Begin x change) older mine f = subst (λ (k : ℕ). IsTurnOf p k (Begin x change) older) (eqb-true x.0 a mine) f.0.1.0
-turn_of p a (HealBegin x g kind) older mine f = subst (λ (k : ℕ). IsTurnOf p k (HealBegin x g kind) older) (eqb-true x.0 a mine) f.0.1.0
-turn_of p a (End x said) older mine f = subst (λ (k : ℕ). IsTurnOf p k (End x said) older) (eqb-true x.0 a mine) f.0.1.0
-turn_of p a (HealEnd x g kind said) older mine f = subst (λ (k : ℕ). IsTurnOf p k (HealEnd x g kind said) older) (eqb-true x.0 a mine) f.0.1.0
-turn_of p a (Event event) older mine f = absurd (true≢false (sym mine))
+pub turn_of : (crawl : Bool) (p : Plan) (a : ℕ) (line : Line) (older : List Line) → is_of a line ≡ true → Follows crawl p (line ∷ older) → IsTurnOf crawl p a line older
+turn_of crawl p a (Ask x b r told took) older mine f = subst (λ (k : ℕ). IsTurnOf crawl p k (Ask x b r told took) older) (eqb-true x.0 a mine) f.0.1.0
+turn_of crawl p a (Begin x change) older mine f = subst (λ (k : ℕ). IsTurnOf crawl p k (Begin x change) older) (eqb-true x.0 a mine) f.0.1.0
+turn_of crawl p a (HealBegin x g kind) older mine f = subst (λ (k : ℕ). IsTurnOf crawl p k (HealBegin x g kind) older) (eqb-true x.0 a mine) f.0.1.0
+turn_of crawl p a (End x said) older mine f = subst (λ (k : ℕ). IsTurnOf crawl p k (End x said) older) (eqb-true x.0 a mine) f.0.1.0
+turn_of crawl p a (HealEnd x g kind said) older mine f = subst (λ (k : ℕ). IsTurnOf crawl p k (HealEnd x g kind said) older) (eqb-true x.0 a mine) f.0.1.0
+turn_of crawl p a (Event event) older mine f = absurd (true≢false (sym mine))
 
 -- an actor of the plan, with a task that it hasn't ended
 pub record HasTask (p : Plan) (a count : ℕ) : Type 0 where
@@ -52,16 +52,18 @@ pub record HasTask (p : Plan) (a count : ℕ) : Type 0 where
 works_cases : (p : Plan) (a : ℕ) (high : Bool) → nat_lt 16 a ≡ high → works_of p a ≡ (if high then length (rounds_of p a) else length (script_of p a))
 works_cases p a high e = rw e refl
 
-pub task_here : (p : Plan) (a : ℕ) (line : Line) (older : List Line) → length p.clients ≤ 16 → IsTurnOf p a line older → HasTask p a (ended a older)
+pub task_here : (p : Plan) (a : ℕ) (line : Line) (older : List Line) → length p.clients ≤ 16 → IsTurnOf false p a line older → HasTask p a (ended a older)
 task_here p a line older few t = go t.keeps
   where
-    go : KeepsToTask p a line older → HasTask p a (ended a older)
+    go : KeepsToTask false p a line older → HasTask p a (ended a older)
     go (ToCommand c e k) = record { actor = t.actor; left = low (nat_lt 16 a) refl }
       where
         low : (high : Bool) → nat_lt 16 a ≡ high → ended a older < works_of p a
         low true f = absurd (no_script p a (ended a older) c few (let h : 17 ≤ a = grind (arith, nat_tests, f) in h) e)
         low false f = rw (works_cases p a false f) (slice_get_within (script_of p a) (ended a older) c e)
-    go (ToRound h b e k) = record { actor = t.actor; left = (let f : nat_lt 16 a ≡ true = grind (arith, nat_tests, h) in rw (works_cases p a true f) (slice_get_within (rounds_of p a) (ended a older) b e)) }
+    go (ToRound plain h b e k) = record { actor = t.actor; left = (let f : nat_lt 16 a ≡ true = grind (arith, nat_tests, h) in rw (works_cases p a true f) (slice_get_within (rounds_of p a) (ended a older) b e)) }
+    go (ToCrawl crawls who b e k) = absurd (true≢false (sym crawls))
+    go (ToItem crawls h item given k) = absurd (true≢false (sym crawls))
 
 -- a line of another ends no work of the actor
 pub other_ends : (a : ℕ) (line : Line) → is_of a line ≡ false → ends_work a line ≡ false
@@ -72,15 +74,15 @@ other_ends a (HealBegin x g kind) e = refl
 other_ends a (HealEnd x g kind said) e = refl
 other_ends a (Event event) e = refl
 
-pub task_of : (p : Plan) (log : List Line) (a : ℕ) → length p.clients ≤ 16 → Follows p log → place_of a log ≡ Within → HasTask p a (ended a log)
+pub task_of : (p : Plan) (log : List Line) (a : ℕ) → length p.clients ≤ 16 → Follows false p log → place_of a log ≡ Within → HasTask p a (ended a log)
 task_of p [] a few f e = absurd (cc e)
 task_of p (line ∷ older) a few f e = go (is_of a line) refl e (λ w. task_of p older a few f.1 w)
   where
     go : (mine : Bool) → is_of a line ≡ mine → (if mine then next_place (place_of a older) line else place_of a older) ≡ Within → (place_of a older ≡ Within → HasTask p a (ended a older)) → HasTask p a (if ends_work a line then ended a older + 1 else ended a older)
     go false m w rest = rw (other_ends a line m) (rest w)
-    go true m w rest = own line m w (turn_of p a line older m f)
+    go true m w rest = own line m w (turn_of false p a line older m f)
       where
-        own : (l : Line) → is_of a l ≡ true → next_place (place_of a older) l ≡ Within → IsTurnOf p a l older → HasTask p a (if ends_work a l then ended a older + 1 else ended a older)
+        own : (l : Line) → is_of a l ≡ true → next_place (place_of a older) l ≡ Within → IsTurnOf false p a l older → HasTask p a (if ends_work a l then ended a older + 1 else ended a older)
         own (End x said) m w t = absurd (after_end (place_of a older) x said w)
         own (Ask x b r told took) m w t = task_here p a (Ask x b r told took) older few t
         own (Begin x change) m w t = task_here p a (Begin x change) older few t

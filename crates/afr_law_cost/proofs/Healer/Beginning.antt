@@ -21,22 +21,22 @@ paced_at_first p a x new = subst (IsPacedRound p a []) (sym new.idle) (record { 
 
 -- ---- the merge of names takes no line
 ready_left : (n objects : ℕ) (r : RoundProgress) (stage : RoundStage) → left_in_stage n objects r (ready_at stage) ≡ left_in_stage n objects r stage
-ready_left n objects r Asking = refl
+ready_left n objects r (Asking heals) = refl
 ready_left n objects r (Healing h) = refl
 ready_left n objects r (Over refused) = refl
 
 ready_rooted : (stage : RoundStage) → AreRooted stage → AreRooted (ready_at stage)
-ready_rooted Asking k = tt
+ready_rooted (Asking heals) k = tt
 ready_rooted (Healing h) k = k
 ready_rooted (Over refused) k = tt
 
 pub paced_ready : RoundCosts → RoundPacedReady
-paced_ready costs p a log servers b x z healer acting is k = subst (IsPacedRound p a log) (sym (ap (λ (z : Healer). z.round) is)) (by x.round acting.carries k)
+paced_ready costs crawl heals p a log servers b x z healer acting is k = subst (IsPacedRound p a log) (sym (ap (λ (z : Healer). z.round) is)) (by x.round acting.carries k)
   where
-    by : (round : Option Rounding) → CarriesIts p a log x.visit.met x.visit.epochs servers round → IsPacedRound p a log round → IsPacedRound p a log (Some (made_ready (round_or p.shape b round)))
+    by : (round : Option Rounding) → CarriesIts crawl p a log x.visit.met x.visit.epochs servers round → IsPacedRound p a log round → IsPacedRound p a log (Some (made_ready (round_or p.shape heals b round)))
     by None between k = record {
       within = λ cost e. (
-          let most = costs (objects_of p) p.shape b in
+          let most = costs (objects_of p) p.shape heals b in
           let is_cost = is_round_cost p a (ended a log) cost healer e in
           let none : spent (work a log) ≡ 0 = ap spent between.none in
           omega (arith, most, is_cost, none));

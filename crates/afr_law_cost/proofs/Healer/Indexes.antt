@@ -5,4 +5,4 @@ use Rattle.afr_law_cost.specs.Healer.Laws.{IndexIsShown}
 use Rattle.afr_servers.specs.Needs.{AnswersAreRead}
 
 pub index_shown : AnswersAreRead → IndexIsShown
-index_shown answers p a log servers new x y line m b before asked told = answers p log a x.visit.met x.visit.epochs asked.epochs b Index asked.load servers new asked.given before.served asked.served refl told
+index_shown answers crawl p a log servers new x y line m b before asked told = answers p log a x.visit.met x.visit.epochs asked.epochs b Index asked.load servers new asked.given before.served asked.served refl told

@@ -77,7 +77,7 @@ module _ (nearer : RoundAsksNearer) (objects : ℕ) (m after : Rounding) (answer
   heard b request e lists = by m.stage refl e fed
     where
       by : (stage : RoundStage) → m.stage ≡ stage → next_at m.round.brick stage ≡ next.Ask b request → IsAnsweredAt answer at stage m after → ComesNearer
-      by Asking is e fed_at = nearer objects m after answer at sound rooted (lists (index_asked m.round.brick b request e)) can fed
+      by (Asking heals) is e fed_at = nearer objects m after answer at sound rooted (lists (index_asked m.round.brick b request e)) can fed
       by (Healing h) is e fed_at = heard_in_heal h is fed_at
       by (Over refused) is e fed_at = absurd (cc e)
 
@@ -128,8 +128,8 @@ module _ (laws : LineLaws) (p : Plan) (a : ActorId) (log : List Line) (servers n
   steps (next.Begin change) e q = absurd q
 
 pub paced_line : LineLaws → RoundPacedLine
-paced_line laws p a log servers new x y line before acting ready s lists k =
-    steps laws p a log servers new x y line s.round (laws.can p a log servers x before acting ready s.round s.present) s.present carries.sound lists (subst (IsPacedRound p a.0 log) s.present k) (next_of s.round) refl s.steps
+paced_line laws crawl p a log servers new x y line before acting ready s lists k =
+    steps laws p a log servers new x y line s.round (laws.can crawl p a log servers x before acting ready s.round s.present) s.present carries.sound lists (subst (IsPacedRound p a.0 log) s.present k) (next_of s.round) refl s.steps
   where
-    carries : CarriesRound p a.0 log x.visit.met x.visit.epochs servers s.round
-    carries = subst (CarriesIts p a.0 log x.visit.met x.visit.epochs servers) s.present acting.carries
+    carries : CarriesRound crawl p a.0 log x.visit.met x.visit.epochs servers s.round
+    carries = subst (CarriesIts crawl p a.0 log x.visit.met x.visit.epochs servers) s.present acting.carries

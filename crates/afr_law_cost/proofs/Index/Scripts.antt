@@ -24,7 +24,7 @@ use Rattle.afr_lines.specs.declared.line.Line.TheVariants.{Ask, Begin, End, Even
 use Rattle.afr_lines.specs.declared.line.Line.{Line}
 use Rattle.afr_model.specs.Actors.{Client, Healer, IsActor, script_of}
 use Rattle.afr_model.specs.Commands.{change_named, last_of}
-use Rattle.afr_model.specs.Following.{Follows, IsFollowing, KeepsToCommand, KeepsToTask, ToCommand, ToRound}
+use Rattle.afr_model.specs.Following.{Follows, IsFollowing, KeepsToCommand, KeepsToTask, ToCommand, ToCrawl, ToItem, ToRound}
 use Rattle.afr_model.specs.Keeping.{KeepsTo}
 use Rattle.afr_model.specs.Parts.{Makes, Part, Removes, Walks, part_at}
 use Rattle.afr_model.specs.Renamed.{HasFound, KeepsToPart}
@@ -135,8 +135,8 @@ part_count p x change older f from to Walks k = count_of x (length older) 0 None
 part_count p x change older f from to Makes k = count_of x (length older) 0 _ change k.1.named (linked_count p x older f from k.1.dir.gfid k.1.file k.1.found (last_of to))
 part_count p x change older f from to Removes k = count_of x (length older) 0 _ change k.1.named (removed_count x k.1.object.gfid (length older) File (last_of from))
 
-begun : (p : Plan) (x : ActorId) (change : Change) (older : List Line) → IsOfPlan p older → IsFollowing p (Begin x change) older → Begun p x change older
-begun p x change older of f = go f.1.0.keeps
+begun : (crawl : Bool) (p : Plan) (x : ActorId) (change : Change) (older : List Line) → IsOfPlan p older → IsFollowing crawl p (Begin x change) older → Begun p x change older
+begun crawl p x change older of f = go f.1.0.keeps
   where
     by_path : (c : Command) → slice_get (script_of p x.0) (ended x.0 older) ≡ Some c → KeepsTo p c (Begin x change) (length older) (work x.0 older) → Begun p x change older
     by_path c e k = First k.0 (subst (λ (o : Option Command). length (numbers_in (length older) (Begin x change)) ≤ makes_in o) (sym e) (count_of x (length older) (makes c) (change_named k.1.object.gfid (length older) c) change k.1.named (named_count x k.1.object.gfid (length older) c)))
@@ -145,11 +145,13 @@ begun p x change older of f = go f.1.0.keeps
     by_command (command.Rename from to) e k = (let none = part_count p x change older of from to (part_at from (Begin x change) (work x.0 older)) k in Links (omega (arith, none)))
     by_command c e k = by_path c e k
 
-    go : KeepsToTask p x.0 (Begin x change) older → Begun p x change older
-    go (ToRound high b e k) = absurd k
+    go : KeepsToTask crawl p x.0 (Begin x change) older → Begun p x change older
+    go (ToRound plain high b e k) = absurd k
+    go (ToCrawl crawls who b e k) = absurd k
+    go (ToItem crawls high item e k) = absurd k.0
     go (ToCommand c e k) = by_command c e k
 
-module _ (p : Plan) (a : ℕ) (older : List Line) (of : IsOfPlan p older) (h : IsCounted p a older) where
+module _ (crawl : Bool) (p : Plan) (a : ℕ) (older : List Line) (of : IsOfPlan p older) (h : IsCounted p a older) where
   abbrev M : ℕ
   M = made_by a older
 
@@ -165,7 +167,7 @@ module _ (p : Plan) (a : ℕ) (older : List Line) (of : IsOfPlan p older) (h : I
   abbrev m : ℕ → ℕ
   m k = makes_in (slice_get (script_of p a) k)
 
-  counted_next : (line : Line) → IsFollowing p line older → IsCounted p a (line ∷ older)
+  counted_next : (line : Line) → IsFollowing crawl p line older → IsCounted p a (line ∷ older)
   counted_next (End x reply) f = go (x.0 == a)
     where
       go : (mine : Bool) → (if mine then 0 else 0) + M ≤ U (if mine then E + 1 else E) + (if has begins_attempt (if mine then [] else W) then m (if mine then E + 1 else E) else 0)
@@ -175,7 +177,7 @@ module _ (p : Plan) (a : ℕ) (older : List Line) (of : IsOfPlan p older) (h : I
           let next : U (E + 1) ≡ U E + m E = rw one (upto_next E (script_of p a)) in
           let low = if_most (has begins_attempt W) (m E) in
           omega (arith, h, next, low)
-  counted_next (Begin x change) f = go (x.0 == a) refl (begun p x change older of f)
+  counted_next (Begin x change) f = go (x.0 == a) refl (begun crawl p x change older of f)
     where
       go : (mine : Bool) → (x.0 == a) ≡ mine → Begun p x change older → (if mine then length (numbers_in (length older) (Begin x change)) else 0) + M ≤ U E + (if has begins_attempt (if mine then (Begin x change, older) ∷ W else W) then m E else 0)
       go false e w = omega (arith, h)
@@ -205,7 +207,7 @@ module _ (p : Plan) (a : ℕ) (older : List Line) (of : IsOfPlan p older) (h : I
 
 counted : (p : Plan) (log : List Line) → IsOfPlan p log → (a : ℕ) → IsCounted p a log
 counted p [] f a = omega arith
-counted p (line ∷ older) f a = (let before = plan_before p line older f in counted_next p a older before (counted p older before a) line f.follows.0)
+counted p (line ∷ older) f a = (let before = plan_before p line older f in counted_next f.crawl p a older before (counted p older before a) line f.follows.0)
 
 by_script : (p : Plan) (log : List Line) → IsOfPlan p log → (a : ℕ) → made_by a log ≤ total makes (script_of p a)
 by_script p log f a = (
@@ -225,20 +227,22 @@ has_script (x ∷ xs) zero k c e = omega arith
 has_script (x ∷ xs) (suc i) k c e = (let h = has_script xs i k c e in omega (arith, h))
 
 -- a change is begun by a client alone
-begun_by_client : (p : Plan) (x : ActorId) (change : Change) (older : List Line) → IsFollowing p (Begin x change) older → In x.0 (clients p)
-begun_by_client p x change older f = go f.1.0.actor f.1.0.keeps
+begun_by_client : (crawl : Bool) (p : Plan) (x : ActorId) (change : Change) (older : List Line) → IsFollowing crawl p (Begin x change) older → In x.0 (clients p)
+begun_by_client crawl p x change older f = go f.1.0.actor f.1.0.keeps
   where
-    go : IsActor p x.0 → KeepsToTask p x.0 (Begin x change) older → In x.0 (clients p)
-    go who (ToRound high b e k) = absurd k
+    go : IsActor p x.0 → KeepsToTask crawl p x.0 (Begin x change) older → In x.0 (clients p)
+    go who (ToRound plain high b e k) = absurd k
+    go who (ToCrawl crawls first b e k) = absurd k
+    go who (ToItem crawls high item e k) = absurd k.0
     go (Client low high) (ToCommand c e k) = in_range 1 (length p.clients) x.0 low (omega (arith, high))
     go (Healer low high) (ToCommand c e k) = (let l = has_script p.clients (x.0 - 1) (ended x.0 older) c e in in_range 1 (length p.clients) x.0 (omega (arith, low)) (omega (arith, low, l)))
 
 made_more : (a : ℕ) (line : Line) (older : List Line) → made_by a older ≤ made_by a (line ∷ older)
 made_more a line older = omega arith
 
-made_total : (p : Plan) (log : List Line) → Follows p log → length (made_numbers log) ≤ total (λ a. made_by a log) (clients p)
-made_total p [] f = omega arith
-made_total p (line ∷ older) f = go line f.0 (made_total p older f.1)
+made_total : (crawl : Bool) (p : Plan) (log : List Line) → Follows crawl p log → length (made_numbers log) ≤ total (λ a. made_by a log) (clients p)
+made_total crawl p [] f = omega arith
+made_total crawl p (line ∷ older) f = go line f.0 (made_total crawl p older f.1)
   where
     same : (line : Line) → length (numbers_in (length older) line) ≡ 0 → length (made_numbers older) ≤ total (λ a. made_by a older) (clients p) → length (numbers_in (length older) line ++ made_numbers older) ≤ total (λ a. made_by a (line ∷ older)) (clients p)
     same line none h =
@@ -246,7 +250,7 @@ made_total p (line ∷ older) f = go line f.0 (made_total p older f.1)
         let size : length (numbers_in (length older) line ++ made_numbers older) ≡ length (numbers_in (length older) line) + length (made_numbers older) = length-append (numbers_in (length older) line) (made_numbers older) in
         omega (arith, h, all, size, none)
 
-    go : (line : Line) → IsFollowing p line older → length (made_numbers older) ≤ total (λ a. made_by a older) (clients p) → length (numbers_in (length older) line ++ made_numbers older) ≤ total (λ a. made_by a (line ∷ older)) (clients p)
+    go : (line : Line) → IsFollowing crawl p line older → length (made_numbers older) ≤ total (λ a. made_by a older) (clients p) → length (numbers_in (length older) line ++ made_numbers older) ≤ total (λ a. made_by a (line ∷ older)) (clients p)
     go (Begin x (Make dir name g what)) f h = by (g.0 == length older + 2) refl
       where
         by : (new : Bool) → (g.0 == length older + 2) ≡ new → length (numbers_in (length older) (Begin x (Make dir name g what)) ++ made_numbers older) ≤ total (λ a. made_by a (Begin x (Make dir name g what) ∷ older)) (clients p)
@@ -254,7 +258,7 @@ made_total p (line ∷ older) f = go line f.0 (made_total p older f.1)
             let line : Line = Begin x (Make dir name g what) in
             let one : length (numbers_in (length older) line) ≡ 1 = rw e refl in
             let mine : made_by x.0 older < made_by x.0 (line ∷ older) = rw (same_self x.0, e) (omega arith) in
-            let all = total_less (λ a. made_by a (line ∷ older)) (λ a. made_by a older) (clients p) x.0 (λ a. made_more a line older) (begun_by_client p x (Make dir name g what) older f) mine in
+            let all = total_less (λ a. made_by a (line ∷ older)) (λ a. made_by a older) (clients p) x.0 (λ a. made_more a line older) (begun_by_client crawl p x (Make dir name g what) older f) mine in
             let size : length (numbers_in (length older) line ++ made_numbers older) ≡ length (numbers_in (length older) line) + length (made_numbers older) = length-append (numbers_in (length older) line) (made_numbers older) in
             omega (arith, h, all, size, one)
         by false e = same (Begin x (Make dir name g what)) (rw e refl) h
@@ -278,6 +282,6 @@ all_scripts f k (s ∷ ss) each =
 -- so the scripts bound what a log makes
 pub made_few : (p : Plan) (log : List Line) → IsOfPlan p log → length (made_numbers log) ≤ total (λ script. total makes script) p.clients
 made_few p log f =
-    let lines = made_total p log f.follows in
+    let lines = made_total f.crawl p log f.follows in
     let scripts = all_scripts (λ a. made_by a log) 1 p.clients (λ i. subst (λ (j : ℕ). made_by (1 + i) log ≤ total makes (slice_index_or p.clients j [])) (omega arith) (by_script p log f (1 + i))) in
     omega (arith, lines, scripts)

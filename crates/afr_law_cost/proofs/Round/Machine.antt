@@ -91,7 +91,7 @@ module _ (notes : NotesStand) (shapes : ShapesKept) (lows : HealAsksLow) (m : He
   same = shapes p (move_of b request) told t
 
   there : Stands q r
-  there = notes p (seen_as p) (move_of b request) told t k.heals.few k.heals.five small (self_stands p k.heals.published)
+  there = notes p (seen_as p) (move_of b request) told t k.heals.few k.heals.five small (self_stands p)
 
   rooted_after : StaysRooted → Rooted (seen_as p) → Rooted (seen_as q)
   rooted_after stays h = (let e = restyled_is q r there in subst (λ (r2 : Exact). Rooted r2) e (stays p.shape.n (keeps_in p.shape) (seen_as p) t b request told can.0 h))
@@ -186,7 +186,7 @@ module _ (notes : NotesStand) (m : Healing) (t : ℕ) (k : IsHealing m) where
   z = (begun t m).register
 
   begun_there : Stands z (begun_at o.shape.n (keeps_in o.shape) (seen_as o) t m.gfid m.kind)
-  begun_there = notes o (seen_as o) (move.HealBegin m.gfid m.kind) Done t k.heals.few k.heals.five tt (self_stands o k.heals.published)
+  begun_there = notes o (seen_as o) (move.HealBegin m.gfid m.kind) Done t k.heals.few k.heals.five tt (self_stands o)
 
   begun_near : lines_left o.shape.n (keeps_in o.shape) (begun_at o.shape.n (keeps_in o.shape) (seen_as o) t m.gfid m.kind) m.source.0 m.kind + 1 ≤ heal_left m → heal_left (begun t m) + 1 ≤ heal_left m
   begun_near h = (

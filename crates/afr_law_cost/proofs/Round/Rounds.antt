@@ -1,5 +1,5 @@
 -- Each line of a round comes nearer to its end.
-use Rattle.std.proofs.Common.{◌≡◌, ◌≤◌, ◌+◌, ◌*◌, ℕ, zero, suc, ap, arith, refl, if◌then◌else◌, List, [], ◌∷◌, length, Option, None, Some, slice_get}
+use Rattle.std.proofs.Common.{◌≡◌, ◌≤◌, ◌+◌, ◌*◌, ℕ, zero, suc, true, false, ap, arith, refl, if◌then◌else◌, List, [], ◌∷◌, length, Option, None, Some, slice_get}
 use Rattle.std.specs.Prelude.{drop, is_some}
 use Rattle.std.proofs.Math.Nat.{mul-le-mul_right}
 use Rattle.afr_base.specs.declared.ids.Gfid.{Gfid}
@@ -63,16 +63,17 @@ due_most costs objects shape r = go (next_due r) refl
         sum l c d e f a b g = omega (arith, a, b, g)
 
 pub index_nearer : HealCosts → IndexNearer
-index_nearer costs objects m (answer_of.Index list) asking lists =
+index_nearer costs objects m true (answer_of.Index list) asking lists =
     let h = due_most costs objects m.shape (with_list list m.round) in
     let a = list_cost m.shape.n list in
     let b = mul-le-mul_right (object_cost m.shape.n) lists in
     let e = ap (left_in_stage m.shape.n objects m.round) asking in
-    (sum (round_left objects (indexed (answer_of.Index list) m)) (heals_cost m.shape.n (heals_of list)) (length list * object_cost m.shape.n) (objects * object_cost m.shape.n) (round_left objects m) h.0 a b e, h.1)
+    (sum (round_left objects (indexed true (answer_of.Index list) m)) (heals_cost m.shape.n (heals_of list)) (length list * object_cost m.shape.n) (objects * object_cost m.shape.n) (round_left objects m) h.0 a b e, h.1)
   where
     sum : (l c x y m : ℕ) → l ≤ c + 1 → c ≤ x → x ≤ y → m ≡ y + 2 → l + 1 ≤ m
     sum l c x y m h a b e = omega (arith, h, a, b, e)
-index_nearer costs objects m _ asking lists = (let e = ap (left_in_stage m.shape.n objects m.round) asking in omega (arith, e), tt)
+index_nearer costs objects m false (answer_of.Index list) asking lists = (let e = ap (left_in_stage m.shape.n objects m.round) asking in omega (arith, e), tt)
+index_nearer costs objects m heals _ asking lists = (let e = ap (left_in_stage m.shape.n objects m.round) asking in omega (arith, e), tt)
 
 pub round_follows : RoundFollows
 round_follows objects m before after c is h = (
@@ -92,12 +93,12 @@ healed_nearer costs objects m heal is some =
     sum l d a m h e s = omega (arith, h, e, s)
 
 pub round_costs : RoundCosts
-round_costs objects shape b = omega arith
+round_costs objects shape heals b = omega arith
 
 pub round_end_left : RoundEndLeft
 round_end_left objects m = go m.stage
   where
     go : (stage : RoundStage) → 1 ≤ left_in_stage m.shape.n objects m.round stage
-    go Asking = omega arith
+    go (Asking heals) = omega arith
     go (At heal) = omega arith
     go (Over refused) = omega arith

@@ -36,8 +36,8 @@ module _ (asks : HealAsksNearer) (roots : HealAsksRooted) (costs : HealCosts) wh
     where
       go : (stage : RoundStage) → old.stage ≡ stage → IsStaged old.shape stage → AreRooted stage → round.CanHearAt stage answer → round.IsAnsweredAt answer at stage old new
           → (round_left objects new + taken_by (round.next_at old.round.brick stage) answer ≤ round_left objects old) × AreRooted new.stage
-      go Asking is staged rooted can w =
-          let h = index_nearer costs objects old answer is lists in
+      go (Asking heals) is staged rooted can w =
+          let h = index_nearer costs objects old heals answer is lists in
           let e = ap (round_left objects) w in
           let v = w in
           (omega (arith, h.0, e), subst (λ (m : Rounding). AreRooted m.stage) (sym v) h.1)
@@ -58,7 +58,7 @@ round_begins_nearer begins objects old at k rooted next = go old.stage refl k.st
     next_begins m Ends e h = absurd (not_both false h refl)
 
     go : (stage : RoundStage) → old.stage ≡ stage → IsStaged old.shape stage → AreRooted stage → round.is_beginning (round.next_at old.round.brick stage) ≡ true → (round_left objects (round.begun at old) + 1 ≤ round_left objects old) × AreRooted (round.begun at old).stage
-    go Asking is staged rooted h = absurd (not_both false h refl)
+    go (Asking heals) is staged rooted h = absurd (not_both false h refl)
     go (At m) is staged rooted h =
         let b = begins m at staged.0 rooted (next_begins m (coming m) refl h) in
         let f = round_follows objects old m (begun at m) 1 is b.0 in
@@ -71,6 +71,6 @@ pub round_healed_nearer : HealEndLeft → HealCosts → RoundHealedNearer
 round_healed_nearer end costs objects old k next = go old.stage refl k.staged next
   where
     go : (stage : RoundStage) → old.stage ≡ stage → IsStaged old.shape stage → round.is_ending (round.next_at old.round.brick stage) ≡ true → (round_left objects (healed old) + 1 ≤ round_left objects old) × AreRooted (healed old).stage
-    go Asking is staged h = absurd (not_both false h refl)
+    go (Asking heals) is staged h = absurd (not_both false h refl)
     go (At m) is staged h = healed_nearer costs objects old m is (end m staged.0)
     go (Over refused) is staged h = absurd (not_both false h refl)

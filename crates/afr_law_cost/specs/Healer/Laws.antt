@@ -1,5 +1,5 @@
 -- The rounds of a healer stay within their costs, whatever line comes next.
-use Rattle.std.specs.Prelude.{◌≡◌, ℕ, ◌≤◌, false, List, [], ◌∷◌, Option, None, length}
+use Rattle.std.specs.Prelude.{◌≡◌, ℕ, ◌≤◌, Bool, false, List, [], ◌∷◌, Option, None, length}
 use Rattle.afr_base.specs.declared.ids.ActorId.{ActorId}
 use Rattle.afr_base.specs.declared.ids.BrickId.{BrickId}
 use Rattle.afr_law_bound.specs.Ends.Cost.{IsWithinCost, objects_of}
@@ -25,14 +25,14 @@ RoundPacedAtFirst = (p : Plan) (a : ℕ) (x : Healer) → IsNewHealer x → IsPa
 
 -- its present round begins, or has the memory of its coming move
 abbrev pub RoundPacedReady : Type 0
-RoundPacedReady = (p : Plan) (a : ℕ) (log : List Line) (servers : List Serving) (b : BrickId) (x z : Healer)
-    → 17 ≤ a → IsHealer p log a servers x → Readies p.shape b x z → IsPacedRound p a log x.round → IsPacedRound p a log z.round
+RoundPacedReady = (crawl heals : Bool) (p : Plan) (a : ℕ) (log : List Line) (servers : List Serving) (b : BrickId) (x z : Healer)
+    → 17 ≤ a → IsHealer crawl p log a servers x → Readies p.shape heals b x z → IsPacedRound p a log x.round → IsPacedRound p a log z.round
 
 -- a line of the healer, where an index that it was given lists no more objects than there can be: the line is within the cost too
 abbrev pub RoundPacedLine : Type 0
 RoundPacedLine =
-    (p : Plan) (a : ActorId) (log : List Line) (servers new : List Serving) (x y : Healer) (line : Line)
-    → IsBeforeRound p a log servers → IsHealer p log a.0 servers x → IsMadeReady x → Stepped IsAnswered a (length log) x y servers new line
+    (crawl : Bool) (p : Plan) (a : ActorId) (log : List Line) (servers new : List Serving) (x y : Healer) (line : Line)
+    → IsBeforeRound crawl p a log servers → IsHealer crawl p log a.0 servers x → IsMadeReady x → Stepped IsAnswered a (length log) x y servers new line
     → ListsAtMost (objects_of p) a (length log) x y servers new line → IsPacedRound p a.0 log x.round
     → IsPacedRound p a.0 (line ∷ log) y.round × IsWithinCost p line log
 
@@ -43,6 +43,6 @@ RoundPacedOther = (p : Plan) (c : ℕ) (line : Line) (log : List Line) (round : 
 -- the index that a brick gave for a line is the one that its tables show then
 abbrev pub IndexIsShown : Type 0
 IndexIsShown =
-    (p : Plan) (a : ActorId) (log : List Line) (servers new : List Serving) (x y : Healer) (line : Line) (m : Rounding) (b : BrickId)
-    → IsBeforeRound p a log servers → (asked : IsAsked IsAnswered a (length log) b Index x y m servers new line)
+    (crawl : Bool) (p : Plan) (a : ActorId) (log : List Line) (servers new : List Serving) (x y : Healer) (line : Line) (m : Rounding) (b : BrickId)
+    → IsBeforeRound crawl p a log servers → (asked : IsAsked IsAnswered a (length log) b Index x y m servers new line)
     → told_by asked.given.answer ≡ Given → asked.given.answer ≡ answer_by None Index (holds p log b.0) log

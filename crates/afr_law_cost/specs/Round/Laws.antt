@@ -1,5 +1,5 @@
 -- Each line of a heal's machine and of a round that counts brings it nearer to its end.
-use Rattle.std.specs.Prelude.{ℕ, ◌≡◌, ◌+◌, ◌*◌, ◌≤◌, true}
+use Rattle.std.specs.Prelude.{ℕ, ◌≡◌, ◌+◌, ◌*◌, ◌≤◌, Bool, true}
 use Rattle.afr_base.specs.declared.ids.BrickId.{BrickId}
 use Rattle.afr_base.specs.declared.ids.Gfid.{Gfid}
 use Rattle.afr_base.specs.declared.ids.Kind.{Kind}
@@ -44,11 +44,11 @@ HealCosts = (shape : Shape) (g : Gfid) (kind : Kind) → (heal_left (heal_from s
 -- ---- a round
 -- at first two lines are left, and for each object that its index lists its cost
 abbrev pub RoundCosts : Type 0
-RoundCosts = (objects : ℕ) (shape : Shape) (b : BrickId) → round_left objects (round_from shape b) ≤ 2 + objects * object_cost shape.n
+RoundCosts = (objects : ℕ) (shape : Shape) (heals : Bool) (b : BrickId) → round_left objects (round_from shape heals b) ≤ 2 + objects * object_cost shape.n
 
 -- the index was answered
 abbrev pub IndexNearer : Type 0
-IndexNearer = (objects : ℕ) (m : Rounding) (answer : Answer) → m.stage ≡ Asking → Lists objects answer → (round_left objects (indexed answer m) + 1 ≤ round_left objects m) × AreRooted (indexed answer m).stage
+IndexNearer = (objects : ℕ) (m : Rounding) (heals : Bool) (answer : Answer) → m.stage ≡ Asking heals → Lists objects answer → (round_left objects (indexed heals answer m) + 1 ≤ round_left objects m) × AreRooted (indexed heals answer m).stage
 
 -- the heal that it is at has fewer lines left
 abbrev pub RoundFollows : Type 0

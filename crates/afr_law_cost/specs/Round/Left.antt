@@ -42,7 +42,7 @@ objects_cost n objects = objects * object_cost n
 
 -- the lines that a round in this stage has left, where its index lists at most so many objects
 abbrev pub left_in_stage : ℕ → ℕ → RoundProgress → RoundStage → ℕ
-left_in_stage n objects p Asking = objects_cost n objects + 2
+left_in_stage n objects p (Asking heals) = objects_cost n objects + 2
 left_in_stage n objects p (At m) = heal_left m + due_left n p + 1
 left_in_stage n objects p (Over refused) = 1
 

@@ -89,15 +89,15 @@ module _ (p : Plan) (log : List Line) (a : ActorId) (b : BrickId) (request : Req
       go (removal_stage.Closing why) at = of_child
 
   -- ---- under the lock of the name
-  under : Follows p log → (job : EntryJob) (w : Walk) (t : TransactionProgress) (found : Found) → IsChanging w job t found → ChangesName p (command_of job w.path) job w.object t found (work a.0 log) → next_under found (length log) job w t ≡ next.Ask b request
+  under : (crawl : Bool) → Follows crawl p log → (job : EntryJob) (w : Walk) (t : TransactionProgress) (found : Found) → IsChanging w job t found → ChangesName p (command_of job w.path) job w.object t found (work a.0 log) → next_under found (length log) job w t ≡ next.Ask b request
       → CanHearUnder found t.stage p w.object b.0 request log heard
-  under follows job w t (Unread copy) sound k e =
-      unread_hears p log a b request heard took h follows (work a.0 log) (work_in a.0 log) w.object (name_of job) t (ap object_of sound.of_job ∙ object_is w.object.gfid job) k.on.0.tells _ k.name.path copy sound.reads e
-  under follows job w t Fits sound k e = fits_hears p log a b request heard took h w.object t sound.in_turn e
-  under follows job w t (Refused why) sound k e = refused_hears p log a b request heard took h w.object t why sound.in_turn (reply_to why) e
+  under crawl follows job w t (Unread copy) sound k e =
+      unread_hears p log a b request heard took h crawl follows (work a.0 log) (work_in a.0 log) w.object (name_of job) t (ap object_of sound.of_job ∙ object_is w.object.gfid job) k.on.0.tells _ k.name.path copy sound.reads e
+  under crawl follows job w t Fits sound k e = fits_hears p log a b request heard took h w.object t sound.in_turn e
+  under crawl follows job w t (Refused why) sound k e = refused_hears p log a b request heard took h w.object t why sound.in_turn (reply_to why) e
 
 pub entry_hears : EntryHears
-entry_hears p c m log a b request heard took sound k e h follows = go m.stage sound.ready k.stage e
+entry_hears p c m log a b request heard took sound k e h crawl follows = go m.stage sound.ready k.stage e
   where
     w : Walk
     w = m.walk
@@ -106,6 +106,6 @@ entry_hears p c m log a b request heard took sound k e h follows = go m.stage so
     go Walking ready t e =
         can_answer p log a b request heard took h
         (asks_same (λ (x : BrickId) (r : Request). IsThere p log x.0 r) (next_in w).0 b (next_in w).1 request e (step_there p (command.Ls w.path) log (work a.0 log) (work_in a.0 log) w h.honest w.step ready t.tells.step))
-    go (Changing t found) ready x e = under p log a b request heard took h follows m.job w t found ready (subst (λ (y : Command). ChangesName p y m.job w.object t found (work a.0 log)) k.named x) e
+    go (Changing t found) ready x e = under p log a b request heard took h crawl follows m.job w t found ready (subst (λ (y : Command). ChangesName p y m.job w.object t found (work a.0 log)) k.named x) e
     go (Removes r) ready t e = removes p log a b request heard took h (w.path ++ t.name ∷ []) r ready.sound t.tells e
     go (Ending said) ready t e = absurd (cc e)

@@ -107,7 +107,7 @@ module _ (p : Plan) (log : List Line) (a : ActorId) (b : BrickId) (request : Req
       go false e = fits_hears dir t (fits_too why t.stage in_turn) e
 
   -- until it is read, by these lines, of which the path has led to the directory
-  module _ (follows : Follows p log) (lines : Work) (is : AreIn log lines) (dir : Entry) (name : NameId) (t : TransactionProgress) (of : object_of t.change ≡ dir.gfid) (tells : Tells p lines t) (read : ℕ) (led : path_by p lines ≡ At read dir) (copy : BrickId) (reads : HasReader t (Unread copy)) where
+  module _ (crawl : Bool) (follows : Follows crawl p log) (lines : Work) (is : AreIn log lines) (dir : Entry) (name : NameId) (t : TransactionProgress) (of : object_of t.change ≡ dir.gfid) (tells : Tells p lines t) (read : ℕ) (led : path_by p lines ≡ At read dir) (copy : BrickId) (reads : HasReader t (Unread copy)) where
     abbrev asked : Request
     asked = request_of.ReadName dir.gfid name
 
@@ -121,7 +121,7 @@ module _ (p : Plan) (log : List Line) (a : ActorId) (b : BrickId) (request : Req
     named can = record {
       answers = can;
       elsewhere = λ entry e.
-          elsewhere p log h.few (omega (arith, h.short)) h.honest h.lawful follows copy.0 dir.gfid name entry
+          elsewhere p log h.few (omega (arith, h.short)) h.honest h.lawful crawl follows copy.0 dir.gfid name entry
           (shown p copy.0 dir.gfid name log entry (name_told p copy.0 dir.gfid name log (answer.Entry (Some entry)) (subst (λ (x : Answer). CanAnswer p copy.0 asked log x) e can)));
     }
 

@@ -107,37 +107,37 @@ module _ (p : Plan) (log : List Line) (a : ActorId) (b : BrickId) (request : Req
     }
 
   -- ---- under the locks
-  under : Follows p log → (lines : Work) → AreIn log lines → (dir : Entry) (name : NameId) (change : Change) → object_of change ≡ dir.gfid → (t : TransactionProgress) (found : Found) → IsUnder change t found → OnChange found p t lines → IsLedTo found p dir lines
+  under : (crawl : Bool) → Follows crawl p log → (lines : Work) → AreIn log lines → (dir : Entry) (name : NameId) (change : Change) → object_of change ≡ dir.gfid → (t : TransactionProgress) (found : Found) → IsUnder change t found → OnChange found p t lines → IsLedTo found p dir lines
       → next_under found (length log) (ReadName dir.gfid name) t ≡ next.Ask b request → CanHearUnder found t.stage p dir b.0 request log heard
-  under follows lines is dir name change of t (Unread copy) u on led e = unread_hears p log a b request heard took h follows lines is dir name t (ap object_of u.of ∙ of) on.0.tells led.0 led.1 copy u.reads e
-  under follows lines is dir name change of t Fits u on led e = fits_hears p log a b request heard took h dir t u.in_turn e
-  under follows lines is dir name change of t (Refused why) u on led e = refused_hears p log a b request heard took h dir t why u.in_turn (reply_to why) e
+  under crawl follows lines is dir name change of t (Unread copy) u on led e = unread_hears p log a b request heard took h crawl follows lines is dir name t (ap object_of u.of ∙ of) on.0.tells led.0 led.1 copy u.reads e
+  under crawl follows lines is dir name change of t Fits u on led e = fits_hears p log a b request heard took h dir t u.in_turn e
+  under crawl follows lines is dir name change of t (Refused why) u on led e = refused_hears p log a b request heard took h dir t why u.in_turn (reply_to why) e
 
   -- a lock of the old name shows nothing
   can_turn : (x : Paths) (t : TransactionProgress) → next_change Locking (length log) (turned x t) ≡ next.Ask b request → CanTell (old_dir x) request (told_by heard)
   can_turn x t e = told_without p log a b request heard took h (old_dir x) (subst (λ (r : Request). is_look r ≡ false) (asked_stage Locking (length log) (turned x t) b request e).1 refl)
 
-  making : Follows p log → (x : Paths) (t : TransactionProgress) (found : Found) → IsMaking x t found → MakesNewName p x t found (work a.0 log) → next_at (length log) (Making t found) x ≡ next.Ask b request → CanHear (Making t found) p x b.0 request log heard
-  making follows x t found sound k e = go (is_done t) e
+  making : (crawl : Bool) → Follows crawl p log → (x : Paths) (t : TransactionProgress) (found : Found) → IsMaking x t found → MakesNewName p x t found (work a.0 log) → next_at (length log) (Making t found) x ≡ next.Ask b request → CanHear (Making t found) p x b.0 request log heard
+  making crawl follows x t found sound k e = go (is_done t) e
     where
       go : (done : Bool) → (if done then next_change Locking (length log) (turned x t) else next_under found (length log) (reads_new x) t) ≡ next.Ask b request
           → CanHearMaking done found t.stage p x b.0 request log heard
       go true e = can_turn x t e
       go false e =
-          under follows (the_make x.first.path (work a.0 log)) (make_in log x.first.path (work a.0 log) (work_in a.0 log)) x.second.object x.new_name (making_of x x.second.object.gfid) refl t found sound.under k.tells.on
+          under crawl follows (the_make x.first.path (work a.0 log)) (make_in log x.first.path (work a.0 log) (work_in a.0 log)) x.second.object x.new_name (making_of x x.second.object.gfid) refl t found sound.under k.tells.on
           (led_new found p (command.Create (to_of x)) (Create x.new_name) x.second.object (the_make x.first.path (work a.0 log)) k.tells.name) e
 
-  removing : Follows p log → (x : Paths) (t : TransactionProgress) (found : Found) → IsRemoving x t found → Removes p x t found (work a.0 log) → next_at (length log) (Removing t found) x ≡ next.Ask b request → CanHear (Removing t found) p x b.0 request log heard
-  removing follows x t found sound k e = go (is_over t.stage t) e
+  removing : (crawl : Bool) → Follows crawl p log → (x : Paths) (t : TransactionProgress) (found : Found) → IsRemoving x t found → Removes p x t found (work a.0 log) → next_at (length log) (Removing t found) x ≡ next.Ask b request → CanHear (Removing t found) p x b.0 request log heard
+  removing crawl follows x t found sound k e = go (is_over t.stage t) e
     where
       go : (over : Bool) → (if over then next.End (half_reply (outcome_of t.change t.register)) else next_under found (length log) (reads_old x) t) ≡ next.Ask b request → CanHearUnder found t.stage p (old_dir x) b.0 request log heard
       go true e = absurd (cc e)
       go false e =
-          under follows (the_removal x.first.path (work a.0 log)) (removal_in log x.first.path (work a.0 log) (work_in a.0 log)) (old_dir x) x.old_name (removal_of x) refl t found sound.under k.tells.on
+          under crawl follows (the_removal x.first.path (work a.0 log)) (removal_in log x.first.path (work a.0 log) (work_in a.0 log)) (old_dir x) x.old_name (removal_of x) refl t found sound.under k.tells.on
           (led_old found p x (the_removal x.first.path (work a.0 log)) k.tells.name) e
 
 pub rename_hears : EntriesAreNumbered → RenameHears
-rename_hears numbers p c m log a b request heard took sound k e h follows = go m.stage sound.sound k.stage e
+rename_hears numbers p c m log a b request heard took sound k e h crawl follows = go m.stage sound.sound k.stage e
   where
     x : Paths
     x = m.paths
@@ -148,6 +148,6 @@ rename_hears numbers p c m log a b request heard took sound k e h follows = go m
         (can_walk p log a b request heard took h (command.Stat x.first.path) (work a.0 log) (work_in a.0 log) x.first ready t.tells.step e)
     go Walking ready t e =
         can_walk p log a b request heard took h (command.Ls x.second.path) (the_make x.first.path (work a.0 log)) (make_in log x.first.path (work a.0 log) (work_in a.0 log)) x.second ready.0 t.tells.tells.step e
-    go (Making t found) ready told e = making p log a b request heard took h follows x t found ready told e
-    go (Removing t found) ready told e = removing p log a b request heard took h follows x t found ready told e
+    go (Making t found) ready told e = making p log a b request heard took h crawl follows x t found ready told e
+    go (Removing t found) ready told e = removing p log a b request heard took h crawl follows x t found ready told e
     go (Ending said) ready t e = tt

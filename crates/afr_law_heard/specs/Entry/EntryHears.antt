@@ -23,7 +23,7 @@ use Rattle.afr_law_heard.specs.Hears.{IsHeard}
 abbrev pub EntryHears : Type 0
 EntryHears =
     (p : Plan) (c : Command) (m : Entering) (log : List Line) (a : ActorId) (b : BrickId) (request : Request) (heard : Answer) (took : Bool)
-    → IsEntry m.walk m.job m.stage → EntryTells p c m (work a.0 log) → next_of (length log) m ≡ next.Ask b request → IsHeard p log a b request heard took → Follows p log
+    → IsEntry m.walk m.job m.stage → EntryTells p c m (work a.0 log) → next_of (length log) m ≡ next.Ask b request → IsHeard p log a b request heard took → (crawl : Bool) → Follows crawl p log
     → CanHear m.stage p m.walk.object b.0 request log heard
 
 -- what goes with its next request is what the log gives the request

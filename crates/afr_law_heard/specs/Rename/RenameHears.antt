@@ -28,7 +28,7 @@ use Rattle.afr_law_heard.specs.Hears.{IsHeard}
 abbrev pub RenameHears : Type 0
 RenameHears =
     (p : Plan) (c : Command) (m : Renaming) (log : List Line) (a : ActorId) (b : BrickId) (request : Request) (heard : Answer) (took : Bool)
-    → IsRename m.paths m.stage → RenameTells p c m (work a.0 log) → next_of (length log) m ≡ next.Ask b request → IsHeard p log a b request heard took → Follows p log
+    → IsRename m.paths m.stage → RenameTells p c m (work a.0 log) → next_of (length log) m ≡ next.Ask b request → IsHeard p log a b request heard took → (crawl : Bool) → Follows crawl p log
     → CanHear m.stage p m.paths b.0 request log heard
 
 -- what goes with its next request is what the log gives the request

@@ -89,7 +89,7 @@ path_known p (line ∷ older) f a k j o e = known_next p line older f a k j o (�
 make_dir : (p : Plan) (log : List Line) → IsOfPlan p log → (q x d m g : ℕ) → by_position log q ≡ Some (begin_by x (make_in d m g Dir)) → (g ≡ q + 2) × IsNumbered p q d
 make_dir p log f q x d m g e =
     let w = found p log f q (begin_by x (make_in d m g Dir)) e in
-    let l = make_line p w.older x d m g w.follows in
+    let l = make_line p w.older x d m g w.crawl w.follows in
     let known = path_known p w.older w.plan x l.names l.names l.object l.led in
     let number = l.number in
     let size = w.size in

@@ -12,7 +12,7 @@ use Rattle.afr_lines.specs.Log.{from_oldest}
 use Rattle.afr_lines.specs.Work.{work}
 use Rattle.afr_lines.specs.declared.line.Line.{Line}
 use Rattle.afr_model.specs.Commands.{change_named, is_on_name, last_of, steps_of}
-use Rattle.afr_model.specs.Following.{IsFollowing, KeepsToCommand, KeepsToTask, ToCommand, ToRound}
+use Rattle.afr_model.specs.Following.{IsFollowing, KeepsToCommand, KeepsToTask, ToCommand, ToCrawl, ToItem, ToRound}
 use Rattle.afr_model.specs.Keeping.{KeepsTo}
 use Rattle.afr_model.specs.Parts.{Makes, Part, Removes, Walks, part_at}
 use Rattle.afr_model.specs.Renamed.{KeepsToPart}
@@ -28,14 +28,15 @@ use Rattle.afr_plan.specs.declared.plan.Plan.{Plan}
 
 -- ---- a line of the log
 pub plan_before : (p : Plan) (line : Line) (older : List Line) → IsOfPlan p (line ∷ older) → IsOfPlan p older
-plan_before p line older f = record { few = f.few; short = (let s = f.short in omega (arith, s)); follows = f.follows.1; honest = f.honest.1; lawful = f.lawful.1 }
+plan_before p line older f = record { few = f.few; short = (let s = f.short in omega (arith, s)); crawl = f.crawl; follows = f.follows.1; honest = f.honest.1; lawful = f.lawful.1 }
 
 -- the line at a position, and the lines before it
 pub record Found (p : Plan) (line : Line) (q : ℕ) : Type 0 where
   pub older : List Line
   pub size : length older ≡ q
   pub plan : IsOfPlan p older
-  pub follows : IsFollowing p line older
+  pub crawl : Bool
+  pub follows : IsFollowing crawl p line older
 
 pub found : (p : Plan) (log : List Line) → IsOfPlan p log → (q : ℕ) (line : Line) → from_oldest q log ≡ Some line → Found p line q
 found p [] f q line e = absurd (cc e)
@@ -45,7 +46,7 @@ found p (new ∷ older) f q line e = go (q == length older) refl e (λ k. found 
     go true h k rest = (
         let same : new ≡ line = cc k in
         let at : q ≡ length older = eqb-true q (length older) h in
-        record { older = older; size = sym at; plan = plan_before p new older f; follows = subst (λ (l : Line). IsFollowing p l older) same f.follows.0 }
+        record { older = older; size = sym at; plan = plan_before p new older f; crawl = f.crawl; follows = subst (λ (l : Line). IsFollowing f.crawl p l older) same f.follows.0 }
         )
     go false h k rest = rest k
 
@@ -122,9 +123,11 @@ module _ (p : Plan) (older : List Line) (x d m g : ℕ) where
   by_command (command.Rename from to) k = absurd (no_rename from to (part_at from line (work x older)) k)
   by_command c k = by_path c k
 
-  pub make_line : IsFollowing p line older → MakeLine p older x d g
-  make_line f = go f.1.0.keeps
+  pub make_line : (crawl : Bool) → IsFollowing crawl p line older → MakeLine p older x d g
+  make_line crawl f = go f.1.0.keeps
     where
-      go : KeepsToTask p x line older → MakeLine p older x d g
-      go (ToRound high b e k) = absurd k
+      go : KeepsToTask crawl p x line older → MakeLine p older x d g
+      go (ToRound plain high b e k) = absurd k
+      go (ToCrawl crawls who b e k) = absurd k
+      go (ToItem crawls high item e k) = absurd k.0
       go (ToCommand c e k) = by_command c k

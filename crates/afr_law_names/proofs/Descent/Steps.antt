@@ -21,7 +21,7 @@ use Rattle.afr_lines.specs.declared.line.Line.TheVariants.{Ask, End}
 use Rattle.afr_lines.specs.declared.line.Line.{Line}
 use Rattle.afr_lines.specs.declared.request.Request.TheVariants.{ReadName}
 use Rattle.afr_model.specs.Actors.{script_of}
-use Rattle.afr_model.specs.Following.{IsFollowing, KeepsToCommand, KeepsToTask, ToCommand, ToRound}
+use Rattle.afr_model.specs.Following.{IsFollowing, KeepsToCommand, KeepsToTask, ToCommand, ToCrawl, ToItem, ToRound}
 use Rattle.afr_model.specs.Keeping.{KeepsTo}
 use Rattle.afr_model.specs.Showing.{At, NoName, Path, Untold, path_after, path_by, root_entry}
 use Rattle.afr_model.specs.Standing.{kept_at, path_upto}
@@ -52,15 +52,17 @@ pub data Steps (k : ℕ) (u v whole : Path) : Type 0 where
   Lost : IsOff v → Steps k u v whole
 
 -- a directory that is read at a name is greater than where the path stood
-read_down : (p : Plan) (older : List Line) → IsOfPlan p older → (a j : ℕ) (c : Command) (o e : Entry) (b : ActorId) (y : BrickId) (g : Gfid) (name : NameId) (took : Bool) → a ≤ 16 → slice_get (script_of p a) (ended a older) ≡ Some c → has_one_path c ≡ true
-    → is_of a (Ask b y (ReadName g name) Given took) ≡ true → IsFollowing p (Ask b y (ReadName g name) Given took) older → path_by p (work a older) ≡ At j o → entry_at g name (holds p older y.0) ≡ Some e → e.what ≡ Dir → o.gfid.0 < e.gfid.0
-read_down p older f a j c o e b y g name took client present one mine follows stands there directory = go follows.1.0.keeps
+read_down : (crawl : Bool) (p : Plan) (older : List Line) → IsOfPlan p older → (a j : ℕ) (c : Command) (o e : Entry) (b : ActorId) (y : BrickId) (g : Gfid) (name : NameId) (took : Bool) → a ≤ 16 → slice_get (script_of p a) (ended a older) ≡ Some c → has_one_path c ≡ true
+    → is_of a (Ask b y (ReadName g name) Given took) ≡ true → IsFollowing crawl p (Ask b y (ReadName g name) Given took) older → path_by p (work a older) ≡ At j o → entry_at g name (holds p older y.0) ≡ Some e → e.what ≡ Dir → o.gfid.0 < e.gfid.0
+read_down crawl p older f a j c o e b y g name took client present one mine follows stands there directory = go follows.1.0.keeps
   where
     who : b.0 ≡ a
     who = eqb-true b.0 a mine
 
-    go : KeepsToTask p b.0 (Ask b y (ReadName g name) Given took) older → o.gfid.0 < e.gfid.0
-    go (ToRound high x h k) = absurd (omega (arith, client, who, high))
+    go : KeepsToTask crawl p b.0 (Ask b y (ReadName g name) Given took) older → o.gfid.0 < e.gfid.0
+    go (ToRound plain high x h k) = absurd (omega (arith, client, who, high))
+    go (ToCrawl crawls first x h k) = absurd (omega (arith, client, who, first))
+    go (ToItem crawls high item h k) = absurd (omega (arith, client, who, high))
     go (ToCommand other h kept) =
         let its : slice_get (script_of p a) (ended a older) ≡ Some other = subst (λ (x : ℕ). slice_get (script_of p x) (ended x older) ≡ Some other) who h in
         let command : other ≡ c = same_Some other c (sym its ∙ present) in
@@ -87,7 +89,7 @@ module _ (p : Plan) (line : Line) (older : List Line) (f : IsOfPlan p (line ∷ 
   more mine present j o path stands Stays false h low = Still j o low refl refl refl
   more mine present j o path stands (Reads b y g name took e is there) true h low = (
       let at : j ≡ k = eqb-true j k h in
-      let down = read_down p older (plan_before p line older f) a j c o e b y g name took client present one (subst (λ (l : Line). is_of a l ≡ true) is mine) (subst (λ (l : Line). IsFollowing p l older) is f.follows.0) stands there in
+      let down = read_down f.crawl p older (plan_before p line older f) a j c o e b y g name took client present one (subst (λ (l : Line). is_of a l ≡ true) is mine) (subst (λ (l : Line). IsFollowing f.crawl p l older) is f.follows.0) stands there in
       Passed o e (ap (λ (i : ℕ). At i o) at) (let one : j + 1 ≡ suc k = omega (arith, at) in ap (λ (i : ℕ). At i e) one) down
       )
   more mine present j o path stands (Reads b y g name took e is there) false h low = Still (j + 1) e (let less : j < k = grind (arith, nat_tests, h, low) in omega (arith, less)) refl refl refl

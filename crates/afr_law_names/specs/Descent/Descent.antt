@@ -23,7 +23,8 @@ use Rattle.afr_plan.specs.declared.plan.Plan.{Plan}
 pub record IsOfPlan (p : Plan) (log : List Line) : Type 0 where
   pub few : p.shape.n ≤ 5
   pub short : length log ≤ 4000000
-  pub follows : Follows p log
+  pub crawl : Bool
+  pub follows : Follows crawl p log
   pub honest : Honest p log
   pub lawful : IsLawfulExactly p log
 

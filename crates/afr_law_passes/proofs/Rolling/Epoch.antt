@@ -100,9 +100,9 @@ nothing_newer newer start = subst (λ (k : ℕ). drop k (newer ++ start) ≡ sta
 
 -- the facts of a line that the epoch needs
 abbrev pub Facts : Plan → Line → List Line → Type 0
-Facts p line older = IsFollowing p line older × NamesMissers p line older
+Facts p line older = IsFollowing false p line older × NamesMissers p line older
 
-pub both_facts : (p : Plan) (log : List Line) → Follows p log → EachLine (NamesMissers p) log → EachLine (Facts p) log
+pub both_facts : (p : Plan) (log : List Line) → Follows false p log → EachLine (NamesMissers p) log → EachLine (Facts p) log
 both_facts p [] f n = tt
 both_facts p (line ∷ older) f n = ((f.0, n.0), both_facts p older f.1 n.1)
 

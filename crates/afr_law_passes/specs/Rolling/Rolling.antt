@@ -81,4 +81,4 @@ NeverSplits p log =
 abbrev pub RollingNeverSplits : Type 0
 RollingNeverSplits =
     (p : Plan) (log : List Line) → p.shape.n ≤ 5 → length p.clients ≤ 16 → length log ≤ 4000000
-    → Follows p log → Honest p log → IsLawfulExactly p log → Replied p log → AreBlamed p log → RoundsAreLow p → EveryPrefix (NeverSplits p) log
+    → Follows false p log → Honest p log → IsLawfulExactly p log → Replied p log → AreBlamed p log → RoundsAreLow p → EveryPrefix (NeverSplits p) log

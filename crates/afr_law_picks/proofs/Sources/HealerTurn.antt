@@ -1,5 +1,5 @@
 -- A healer's turn keeps the sources of all healers as the rule picked them.
-use Rattle.std.proofs.Common.{◌≡◌, ◌∙◌, ℕ, ◌+◌, ◌-◌, ◌≤◌, ◌==◌, true, List, ◌∷◌, Option, None, Some, refl, sym, ap, subst, arith, length, option_map, slice_get, slice_set}
+use Rattle.std.proofs.Common.{◌≡◌, ◌∙◌, ℕ, ◌+◌, ◌-◌, ◌≤◌, ◌==◌, true, false, List, ◌∷◌, Option, None, Some, refl, sym, ap, subst, arith, length, option_map, slice_get, slice_set}
 use Rattle.std.proofs.lemmas.Option.{slice_get-map}
 use Rattle.afr_base.specs.declared.ids.ActorId.{ActorId}
 use Rattle.afr_base.specs.declared.ids.Gfid.{Gfid}
@@ -39,7 +39,7 @@ own_source picks p a log healers x healer is k =
 
 -- one line of one healer, whose round has begun, and asks this rule
 pub healer_turn : {F : Type 0} (calls : Calls F) (choose : F) → LineKeepsSource calls choose → (p : Plan) (a : ActorId) (log : List Line) (servers after : List Serving) (old new : List Healer) (x y : Healer) (line : Line)
-    → IsBeforeRound p a log servers → slice_get old (a.0 - 17) ≡ Some x → IsHealer p log a.0 servers x → IsMadeReady x → Stepped (IsFed calls choose) a (length log) x y servers after line → IsWritten a line → new ≡ slice_set old (a.0 - 17) y
+    → IsBeforeRound false p a log servers → slice_get old (a.0 - 17) ≡ Some x → IsHealer false p log a.0 servers x → IsMadeReady x → Stepped (IsFed calls choose) a (length log) x y servers after line → IsWritten a line → new ≡ slice_set old (a.0 - 17) y
     → AreChosen (picks_of calls choose) p log (sources_of old) → AreChosen (picks_of calls choose) p (line ∷ log) (sources_of new)
 healer_turn calls choose law p a log servers after old new x y line before is acting ready steps written set_is k =
     let kept : SourceKept calls choose p a log line y = law p a log servers after x y line before acting ready steps (own_source (picks_of calls choose) p a log old x before.healer is k) in

@@ -1,5 +1,5 @@
 -- One line of a healer keeps its running heal to its source.
-use Rattle.std.proofs.Common.{◌≡◌, ◌∙◌, ℕ, ◌==◌, true, false, List, [], ◌∷◌, Option, None, Some, refl, sym, ap, subst, arith, length}
+use Rattle.std.proofs.Common.{◌≡◌, ◌∙◌, ℕ, ◌==◌, Bool, true, false, List, [], ◌∷◌, Option, None, Some, refl, sym, ap, subst, arith, length}
 use Rattle.std.proofs.lemmas.Bool.Decides.{nat_tests}
 use Rattle.afr_base.specs.declared.ids.ActorId.{ActorId}
 use Rattle.afr_base.specs.declared.ids.BrickId.{BrickId}
@@ -33,7 +33,8 @@ use Rattle.afr_model.specs.Rounds.{heal_due}
 use Rattle.afr_plan.specs.declared.plan.Plan.{Plan}
 use Rattle.afr_healer.proofs.Fed.{steps_answered}
 use Rattle.afr_healer.specs.Acting.{IsAsked, IsBegun, IsEnded, IsHealed, SteppedBy}
-use Rattle.afr_healer.specs.Keeping.{CarriesIts, CarriesRound, IsHealer, RunsHeal, StageStands}
+use Rattle.afr_healer.proofs.Duties.{plain_duty}
+use Rattle.afr_healer.specs.Keeping.{CarriesIts, CarriesRound, Duty, IsHealer, Rounds, RunsHeal, StageStands}
 use Rattle.afr_healer.specs.Laws.{CanStepNext, IsBeforeRound, IsMadeReady, LineKeepsRound, RoundKeeps}
 use Rattle.afr_healer.specs.declared.healer.Healer.{Healer}
 use Rattle.afr_rule.specs.Choosing.{Calls, IsPick}
@@ -72,9 +73,10 @@ due_none : (shape : Shape) (due : Option (Gfid × Kind)) → source_in (stage_du
 due_none shape None = refl
 due_none shape (Some due) = none_picked due.1 0
 
-indexed_none : (answer : Answer) (m : Rounding) → source_in (indexed answer m).stage ≡ None
-indexed_none (answer_of.Index list) m = due_none m.shape _
-indexed_none answer m = refl
+indexed_none : (heals : Bool) (answer : Answer) (m : Rounding) → source_in (indexed heals answer m).stage ≡ None
+indexed_none true (answer_of.Index list) m = due_none m.shape _
+indexed_none false (answer_of.Index list) m = refl
+indexed_none heals answer m = refl
 
 -- ---- the end of a heal
 ended_picked : (picks : Picks) (p : Plan) (a : ActorId) (g : Gfid) (kind : Kind) (said : HealReply) (log : List Line) (source : Option ℕ) → HealsFrom picks p.shape kind source (heal_by (work a.0 log)) → SourcePicked picks p (HealEnd a g kind said) log
@@ -98,7 +100,7 @@ same_kind : (due : Option (Gfid × Kind)) (g h : Gfid) (kind of : Kind) → due 
 same_kind due g h kind of e f = ap (kind_of kind) (sym e ∙ f)
 
 module _ {F : Type 0} (calls : Calls F) (choose : F) (can : CanStepNext) (rounds : LineKeepsRound) (has_source : HealHasSource) (p : Plan) (a : ActorId) (log : List Line) (servers new : List Serving) (x y : Healer) (line : Line)
-    (before : IsBeforeRound p a log servers) (acting : IsHealer p log a.0 servers x) (ready : IsMadeReady x) (after : IsHealer p (line ∷ log) a.0 new y) (runs : RunsFrom (picks_of calls choose) p a.0 log (picked_source x)) where
+    (before : IsBeforeRound false p a log servers) (acting : IsHealer false p log a.0 servers x) (ready : IsMadeReady x) (after : IsHealer false p (line ∷ log) a.0 new y) (runs : RunsFrom (picks_of calls choose) p a.0 log (picked_source x)) where
   abbrev picks : Picks
   picks = picks_of calls choose
 
@@ -107,11 +109,13 @@ module _ {F : Type 0} (calls : Calls F) (choose : F) (can : CanStepNext) (rounds
 
   -- the round stands at this heal
   module _ (m : Rounding) (present : x.round ≡ Some m) (h : Heal) (stage_is : m.stage ≡ Healing h) where
-    carries : CarriesRound p a.0 log x.visit.met x.visit.epochs servers m
-    carries = subst (CarriesIts p a.0 log x.visit.met x.visit.epochs servers) present acting.carries
+    carries : CarriesRound false p a.0 log x.visit.met x.visit.epochs servers m
+    carries = subst (CarriesIts false p a.0 log x.visit.met x.visit.epochs servers) present acting.carries
 
-    here : RunsHeal p a.0 log x.visit.met x.visit.epochs servers h
-    here = (subst (StageStands p a.0 log x.visit.met x.visit.epochs servers m.round) stage_is carries.stage).0
+    here : RunsHeal Rounds p a.0 log x.visit.met x.visit.epochs servers h
+    here =
+        (subst (λ (duty : Duty). StageStands duty p a.0 log x.visit.met x.visit.epochs servers m.round (Healing h)) (plain_duty carries.duty p a.0 log m.round.brick carries.present)
+        (subst (StageStands carries.duty p a.0 log x.visit.met x.visit.epochs servers m.round) stage_is carries.stage)).0
 
     abbrev w : Work
     w = heal_by (work a.0 log)
@@ -127,10 +131,11 @@ module _ {F : Type 0} (calls : Calls F) (choose : F) (can : CanStepNext) (rounds
 
     -- ---- the heal goes on
     module _ (z : Heal) (kind_is : z.kind ≡ h.kind) (now : Rounding) (now_is : y.round ≡ Some now) (now_at : now.stage ≡ Healing z) (border : heal_by (work a.0 (line ∷ log)) ≡ (line, log) ∷ w) where
-      there : RunsHeal p a.0 (line ∷ log) y.visit.met y.visit.epochs new z
+      there : RunsHeal Rounds p a.0 (line ∷ log) y.visit.met y.visit.epochs new z
       there =
-          let round : CarriesRound p a.0 (line ∷ log) y.visit.met y.visit.epochs new now = subst (CarriesIts p a.0 (line ∷ log) y.visit.met y.visit.epochs new) now_is after.carries in
-          (subst (StageStands p a.0 (line ∷ log) y.visit.met y.visit.epochs new now.round) now_at round.stage).0
+          let round : CarriesRound false p a.0 (line ∷ log) y.visit.met y.visit.epochs new now = subst (CarriesIts false p a.0 (line ∷ log) y.visit.met y.visit.epochs new) now_is after.carries in
+          (subst (λ (duty : Duty). StageStands duty p a.0 (line ∷ log) y.visit.met y.visit.epochs new now.round (Healing z)) (plain_duty round.duty p a.0 (line ∷ log) now.round.brick round.present)
+          (subst (StageStands round.duty p a.0 (line ∷ log) y.visit.met y.visit.epochs new now.round) now_at round.stage)).0
 
       stage_after : StageOf z ((line, log) ∷ w)
       stage_after = subst (StageOf z) border (stage_heal z (heal_by (work a.0 (line ∷ log))) there.sound there.tells)
@@ -163,7 +168,7 @@ module _ {F : Type 0} (calls : Calls F) (choose : F) (can : CanStepNext) (rounds
 
       can_hear : heal.CanHear (Asks b.0 asked) s.given.answer
       can_hear =
-          let heard : rounding.CanHear m s.given.answer = (can p a log servers x before acting ready m present).hears b asked s.load new s.epochs s.given next_is s.fits s.carries s.served in
+          let heard : rounding.CanHear m s.given.answer = (can false p a log servers x before acting ready m present).hears b asked s.load new s.epochs s.given next_is s.fits s.carries s.served in
           subst (λ (line : HealNext). heal.CanHear line s.given.answer) e (subst (λ (stage : RoundStage). CanHearAt stage s.given.answer) stage_is heard)
 
       border : heal_by (work a.0 (line ∷ log)) ≡ (line, log) ∷ w
@@ -249,12 +254,12 @@ module _ {F : Type 0} (calls : Calls F) (choose : F) (can : CanStepNext) (rounds
     heal_keeps Ends e s = end_keeps (reply_of h.outcome h.register.seen) s
 
   -- ---- a round begins and ends
-  index_keeps : (m : Rounding) → m.stage ≡ Asking → (b : BrickId) → IsAsked (IsFed calls choose) a (length log) b Index x y m servers new line → Kept
-  index_keeps m stage_is b s =
-      let fed : s.after ≡ indexed s.given.answer m = subst (λ (stage : RoundStage). IsFedAt calls choose s.given.answer (length log) stage m s.after) stage_is s.fed in
+  index_keeps : (m : Rounding) (heals : Bool) → m.stage ≡ Asking heals → (b : BrickId) → IsAsked (IsFed calls choose) a (length log) b Index x y m servers new line → Kept
+  index_keeps m heals stage_is b s =
+      let fed : s.after ≡ indexed heals s.given.answer m = subst (λ (stage : RoundStage). IsFedAt calls choose s.given.answer (length log) stage m s.after) stage_is s.fed in
       record {
         picked = subst (λ (l : Line). SourcePicked picks p l log) (sym s.is_line) tt;
-        runs = none_runs picks p a.0 (line ∷ log) (picked_source y) (ap picked_source s.becomes ∙ ap (λ (m : Rounding). source_in m.stage) fed ∙ indexed_none s.given.answer m)
+        runs = none_runs picks p a.0 (line ∷ log) (picked_source y) (ap picked_source s.becomes ∙ ap (λ (m : Rounding). source_in m.stage) fed ∙ indexed_none heals s.given.answer m)
             (subst (λ (l : Line). heal_by (work a.0 (l ∷ log)) ≡ []) (sym s.is_line) (rw (self a.0) refl));
       }
 
@@ -268,12 +273,12 @@ module _ {F : Type 0} (calls : Calls F) (choose : F) (can : CanStepNext) (rounds
   round_keeps m present s = by m.stage refl s
     where
       by : (stage : RoundStage) → m.stage ≡ stage → SteppedBy (IsFed calls choose) a (length log) x y m servers new line (next_at m.round.brick stage) → Kept
-      by Asking at s = index_keeps m at m.round.brick s
+      by (Asking heals) at s = index_keeps m heals at m.round.brick s
       by (Healing h) at s = heal_keeps m present h at (coming h) refl s
       by (Over refused) at s = round_ends (rounding.reply_of refused) s
 
 -- whatever the line is
 pub line_keeps : {F : Type 0} (calls : Calls F) (choose : F) → CanStepNext → LineKeepsRound → HealHasSource → LineKeepsSource calls choose
 line_keeps calls choose can rounds has_source p a log servers new x y line before acting ready s runs =
-    let kept : RoundKeeps p a log line y servers new = rounds p a log servers new x y line before acting ready (steps_answered calls choose a (length log) x y servers new line s) in
+    let kept : RoundKeeps false p a log line y servers new = rounds false p a log servers new x y line before acting ready (steps_answered calls choose a (length log) x y servers new line s) in
     round_keeps calls choose can rounds has_source p a log servers new x y line before acting ready kept.acting runs s.round s.present s.steps

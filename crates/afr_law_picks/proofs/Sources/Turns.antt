@@ -124,13 +124,13 @@ each_same (x ∷ old) (y ∷ new) many k =
 
 -- a round that begins, and the memory of a coming move, leave the source
 ready_in : (stage : RoundStage) → source_in (ready_at stage) ≡ source_in stage
-ready_in Asking = refl
+ready_in (Asking heals) = refl
 ready_in (Healing h) = refl
 ready_in (Over refused) = refl
 
-pub ready_same : (shape : Shape) (b : BrickId) (x z : Healer) → Readies shape b x z → picked_source z ≡ picked_source x
-ready_same shape b x z k = ap picked_source k ∙ by x.round
+pub ready_same : (shape : Shape) (heals : Bool) (b : BrickId) (x z : Healer) → Readies shape heals b x z → picked_source z ≡ picked_source x
+ready_same shape heals b x z k = ap picked_source k ∙ by x.round
   where
-    by : (round : Option Rounding) → source_at (Some (made_ready (round_or shape b round))) ≡ source_at round
+    by : (round : Option Rounding) → source_at (Some (made_ready (round_or shape heals b round))) ≡ source_at round
     by None = refl
     by (Some m) = ready_in m.stage

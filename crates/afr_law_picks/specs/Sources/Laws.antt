@@ -1,5 +1,5 @@
 -- What each line of a healer makes of its source.
-use Rattle.std.specs.Prelude.{List, ◌∷◌, length}
+use Rattle.std.specs.Prelude.{false, List, ◌∷◌, length}
 use Rattle.afr_base.specs.declared.ids.ActorId.{ActorId}
 use Rattle.afr_heal_round.specs.Rounding.{IsFed}
 use Rattle.afr_lines.specs.declared.line.Line.{Line}
@@ -19,9 +19,9 @@ pub record SourceKept {F : Type 0} (calls : Calls F) (choose : F) (p : Plan) (a 
   pub picked : SourcePicked (picks_of calls choose) p line log
   pub runs : RunsFrom (picks_of calls choose) p a.0 (line ∷ log) (picked_source y)
 
--- so it is with each line that asks this rule
+-- so it is with each line that asks this rule, where the healers don't crawl
 abbrev pub LineKeepsSource : {F : Type 0} → Calls F → F → Type 0
 LineKeepsSource calls choose =
     (p : Plan) (a : ActorId) (log : List Line) (servers new : List Serving) (x y : Healer) (line : Line)
-    → IsBeforeRound p a log servers → IsHealer p log a.0 servers x → IsMadeReady x → Stepped (IsFed calls choose) a (length log) x y servers new line
+    → IsBeforeRound false p a log servers → IsHealer false p log a.0 servers x → IsMadeReady x → Stepped (IsFed calls choose) a (length log) x y servers new line
     → RunsFrom (picks_of calls choose) p a.0 log (picked_source x) → SourceKept calls choose p a log line y

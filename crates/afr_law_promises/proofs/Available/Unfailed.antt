@@ -219,4 +219,4 @@ each_available p [] fits borne = tt
 each_available p (line ∷ older) fits borne = (end_available p line older fits.1 borne.0, each_available p older fits.1 borne.1)
 
 pub exact_available : ModelExactIsAvailable
-exact_available p log five short follows honest lawful replied = each_available p log (each_fits p log five short honest lawful) (available p log follows replied)
+exact_available crawl p log five short follows honest lawful replied = each_available p log (each_fits p log five short honest lawful) (available crawl p log follows replied)

@@ -1,5 +1,5 @@
 -- A change is acknowledged where enough bricks did their part of it, whatever the others did.
-use Rattle.std.specs.Prelude.{◌≡◌, ℕ, ◌≤◌, nat_le, true, false, List, [], Some, length, slice_get}
+use Rattle.std.specs.Prelude.{◌≡◌, ℕ, ◌≤◌, nat_le, Bool, true, false, List, [], Some, length, slice_get}
 use Rattle.afr_base.specs.Bricks.{added_if, member}
 use Rattle.afr_base.specs.declared.ids.Gfid.{Gfid}
 use Rattle.afr_base.specs.declared.ids.NameId.{NameId}
@@ -53,7 +53,7 @@ AnswersBorne p line older = Unit {0}
 
 -- so it is with every End line of a log that follows its plan and is replied
 abbrev pub ModelAnswersBorne : Type 0
-ModelAnswersBorne = (p : Plan) (log : List Line) → Follows p log → Replied p log → EachLine (AnswersBorne p) log
+ModelAnswersBorne = (crawl : Bool) (p : Plan) (log : List Line) → Follows crawl p log → Replied p log → EachLine (AnswersBorne p) log
 
 -- ---- by what bricks told
 -- the bricks that refused or couldn't be reached since the work's Begin line, unlocks aside
@@ -84,4 +84,4 @@ IsAvailable p line older = Unit {0}
 -- so it is with every End line of an honest log of at most 4,000,000 lines that keeps the discipline in full, follows its plan and is replied
 abbrev pub ModelExactIsAvailable : Type 0
 ModelExactIsAvailable =
-    (p : Plan) (log : List Line) → p.shape.n ≤ 5 → length log ≤ 4000000 → Follows p log → Honest p log → IsLawfulExactly p log → Replied p log → EachLine (IsAvailable p) log
+    (crawl : Bool) (p : Plan) (log : List Line) → p.shape.n ≤ 5 → length log ≤ 4000000 → Follows crawl p log → Honest p log → IsLawfulExactly p log → Replied p log → EachLine (IsAvailable p) log

@@ -1,5 +1,5 @@
 -- Each line of the rest of an undisturbed round leaves clear what was clear.
-use Rattle.std.proofs.Common.{Bool, ap, arith, false, inl, inr, refl, subst, sym, true, true≢false, ℕ, suc, ◌||◌, ◌<◌, ◌∙◌, ◌≡◌, ◌∷◌, length}
+use Rattle.std.proofs.Common.{ap, arith, false, inl, inr, refl, subst, sym, Bool, true, true≢false, ℕ, suc, ◌||◌, ◌<◌, ◌∙◌, ◌≡◌, ◌∷◌, length}
 use Rattle.std.specs.Prelude.{List as Seq, Some, slice_get}
 use Rattle.std.proofs.lemmas.Bool.{eqb-true, or_parts}
 use Rattle.afr_base.specs.declared.ids.ActorId.{ActorId}
@@ -19,7 +19,7 @@ use Rattle.afr_lines.specs.declared.request.Request.TheVariants.{Apply, Index, L
 use Rattle.afr_lines.specs.declared.lock.Domain.TheVariants.{Heal, Work}
 use Rattle.afr_plan.specs.declared.plan.Plan.{Plan}
 use Rattle.afr_model.specs.Actors.{script_of}
-use Rattle.afr_model.specs.Following.{IsDue, KeepsToTask, ToCommand, ToRound}
+use Rattle.afr_model.specs.Following.{IsDue, KeepsToTask, ToCommand, ToCrawl, ToItem, ToRound}
 use Rattle.afr_model.specs.Sums.{blames, opens_op}
 use Rattle.afr_law_tables.specs.Codes.{kept_by}
 use Rattle.afr_model_moves.specs.Discipline.{MayAskExactly, MayExactly, MovesExactly, note, present}
@@ -41,12 +41,14 @@ use Rattle.afr_law_quiet.proofs.Copies.Stretch.{Calm}
 use Rattle.afr_law_quiet.proofs.Copies.Told.{Hears, hears}
 
 -- an actor whose present work is no command begins no attempt
-pub no_begin : (p : Plan) (a : ℕ) (older : Seq Line) → ((c : Command) → slice_get (script_of p a) (ended a older) ≡ Some c → ⊥) → (x : ActorId) (change : Change) → x.0 ≡ a → IsDue p (Begin x change) older → ⊥
+pub no_begin : (p : Plan) (a : ℕ) (older : Seq Line) → ((c : Command) → slice_get (script_of p a) (ended a older) ≡ Some c → ⊥) → (x : ActorId) (change : Change) → x.0 ≡ a → IsDue false p (Begin x change) older → ⊥
 no_begin p a older none x change mine d = go d.0.keeps
   where
-    go : KeepsToTask p x.0 (Begin x change) older → ⊥
+    go : KeepsToTask false p x.0 (Begin x change) older → ⊥
     go (ToCommand c e f) = none c (subst (λ o. slice_get (script_of p o) (ended o older) ≡ Some c) mine e)
-    go (ToRound i b e k) = k
+    go (ToRound plain i b e k) = k
+    go (ToCrawl crawls who b e k) = k
+    go (ToItem crawls i item given k) = k.0
 
 module _ (p : Plan) (L : Log) (moves : MovesExactly p.shape.n (kept_by p) L) (a : ℕ) (g : Gfid) (kind : Kind) (K : Seq Line → Type 0) (on : (line : Line) (older : Seq Line) → Premises p (line ∷ older) → Spares kind g line → K older → K (line ∷ older)) (task : (older : Seq Line) → K older → (c : Command) → slice_get (script_of p a) (ended a older) ≡ Some c → ⊥) (older : Seq Line) where
   abbrev n : ℕ

@@ -1,5 +1,5 @@
 -- A settled heal of an undisturbed round leaves its object repaired, to the round's end.
-use Rattle.std.proofs.Common.{Bool, ap, arith, false, inl, inr, not, refl, subst, sym, true, true≢false, ℕ, suc, ◌<◌, ◌∙◌, ◌≡◌, ◌≤◌, ◌⊎◌, [], ◌∷◌, length}
+use Rattle.std.proofs.Common.{ap, arith, false, inl, inr, not, refl, subst, sym, Bool, true, true≢false, ℕ, suc, ◌<◌, ◌∙◌, ◌≡◌, ◌≤◌, ◌⊎◌, [], ◌∷◌, length}
 use Rattle.std.specs.Prelude.{List as Seq, None, Option, Some, if◌then◌else◌, nat_lt, slice_get}
 use Rattle.std.proofs.lemmas.Bool.{cases_lt, eqb-true}
 use Rattle.std.proofs.lemmas.Bool.Decides.{nat_tests}
@@ -8,7 +8,6 @@ use Rattle.afr_base.specs.Keeping.{keeps}
 use Rattle.afr_base.specs.Majority.{is_majority}
 use Rattle.afr_base.specs.SetLemmas.{lowest_left, majority_some, none_left}
 use Rattle.afr_base.specs.declared.ids.ActorId.{ActorId}
-use Rattle.afr_base.specs.declared.ids.BrickId.{BrickId}
 use Rattle.afr_base.specs.declared.ids.Gfid.{Gfid}
 use Rattle.afr_base.specs.declared.ids.Kind.{Kind}
 use Rattle.afr_base.specs.declared.ids.Kind.TheVariants.{Attrs, Bytes, Names}
@@ -24,10 +23,10 @@ use Rattle.afr_lines.specs.declared.line.Line.TheVariants.{Ask, Begin, End, Even
 use Rattle.afr_lines.specs.declared.reply.HealReply.{HealReply}
 use Rattle.afr_lines.specs.declared.reply.HealReply.TheVariants as healed
 use Rattle.afr_plan.specs.declared.plan.Plan.{Plan}
-use Rattle.afr_model.specs.Actors.{rounds_of, script_of}
+use Rattle.afr_model.specs.Actors.{script_of}
 use Rattle.afr_plan.specs.declared.command.Command.{Command}
 use Rattle.afr_model.specs.Cells.{Cell, kind_of_cell, object_of_cell, value_of}
-use Rattle.afr_model.specs.Following.{KeepsToTask, ToCommand, ToRound}
+use Rattle.afr_model.specs.Following.{KeepsToTask, ToCommand, ToCrawl, ToItem, ToRound}
 use Rattle.afr_model.specs.HealReplies.{by_moved, by_owner, heal_reply, is_clean, is_settled, or_else}
 use Rattle.afr_model.specs.Healing.{busy_by, first_by, heal_by, holders_in, settled_at}
 use Rattle.afr_model.specs.Moved.{moved_by}
@@ -175,16 +174,18 @@ module _ (p : Plan) (log : Seq Line) (premises : Premises p log) (a : ℕ) (quie
     may = line_may n (kept_by p) L mv a lo line rest past calm.mine
 
     -- the round is at this heal
-    due : (b : BrickId) × (slice_get (rounds_of p x.0) (ended x.0 rest) ≡ Some b) × (17 ≤ x.0) × (heal_due p (work a rest) ≡ Some (g, kind))
+    due : (17 ≤ x.0) × (heal_due p (work a rest) ≡ Some (g, kind))
     due = go (q.follows.0).1.0.keeps
       where
-        go : KeepsToTask p x.0 line rest → (b : BrickId) × (slice_get (rounds_of p x.0) (ended x.0 rest) ≡ Some b) × (17 ≤ x.0) × (heal_due p (work a rest) ≡ Some (g, kind))
+        go : KeepsToTask false p x.0 line rest → (17 ≤ x.0) × (heal_due p (work a rest) ≡ Some (g, kind))
         go (ToCommand c e k) = absurd (heal_ends_no_command p c x g kind said (length rest) (work x.0 rest) k)
-        go (ToRound i b e k) = (b, e, i, subst (λ o. heal_due p (work o rest) ≡ Some (g, kind)) mine k)
+        go (ToRound plain i b e k) = (i, subst (λ o. heal_due p (work o rest) ≡ Some (g, kind)) mine k)
+        go (ToCrawl crawls who b e k) = absurd (true≢false (sym crawls))
+        go (ToItem crawls i item given k) = absurd (true≢false (sym crawls))
 
     some : (z : ℕ) × (member (among settled_at (heal_by (work a rest))) z ≡ true)
     some = (
-        let answered = (q.replied.0).round due.2 due.0 due.1 in
+        let answered = (q.replied.0).round due.0 in
         some_settled p g kind (heal_by (work a rest)) (subst (λ o. heal_reply p.shape g kind (heal_by (work o rest)) ≡ Some healed.Settled) mine (answered.caused ∙ ap (λ (s : HealReply). Some s) settled))
         )
 
@@ -198,7 +199,7 @@ module _ (p : Plan) (log : Seq Line) (premises : Premises p log) (a : ℕ) (quie
     far = elim may.last [ inl broken ↦ absurd (true≢false (sym broken ∙ done.0)) | inr at ↦ ap rank at ]
 
     same : Path (Gfid × Kind) (g, kind) (gfid r.law.object, r.law.kind)
-    same = cc (sym due.3 ∙ whole.due (λ f low. omega (arith, far, low)))
+    same = cc (sym due.1 ∙ whole.due (λ f low. omega (arith, far, low)))
 
     object_is : g ≡ gfid r.law.object
     object_is = ap (λ (k : Gfid × Kind). k.0) same

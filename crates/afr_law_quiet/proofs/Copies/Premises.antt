@@ -1,5 +1,5 @@
 -- What a log of the volume is known to keep.
-use Rattle.std.proofs.Common.{◌<◌, ◌≤◌, List, ◌∷◌, length, arith}
+use Rattle.std.proofs.Common.{◌<◌, ◌≤◌, List, ◌∷◌, false, length, arith}
 use Rattle.afr_lines.specs.declared.line.Line.{Line}
 use Rattle.afr_plan.specs.declared.plan.Plan.{Plan}
 use Rattle.afr_model.specs.Following.{Follows}
@@ -23,7 +23,7 @@ pub record Premises (p : Plan) (log : List Line) : Type 0 where
   pub five : p.shape.n ≤ 5
   pub some : 0 < p.shape.n
   pub short : length log ≤ 4000000
-  pub follows : Follows p log
+  pub follows : Follows false p log
   pub honest : Honest p log
   pub lawful : IsLawfulExactly p log
   pub replied : Replied p log

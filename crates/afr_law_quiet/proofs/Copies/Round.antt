@@ -1,5 +1,5 @@
 -- What the register of a healer says along an undisturbed round.
-use Rattle.std.proofs.Common.{Bool, ap, arith, false, inl, inr, refl, subst, sym, true, true≢false, ℕ, suc, zero, ◌&&◌, ◌||◌, ◌<◌, ◌∙◌, ◌≡◌, ◌≤◌, ◌⊎◌, [], ◌∷◌, length}
+use Rattle.std.proofs.Common.{ap, arith, false, inl, inr, refl, subst, sym, Bool, true, true≢false, ℕ, suc, zero, ◌&&◌, ◌||◌, ◌<◌, ◌∙◌, ◌≡◌, ◌≤◌, ◌⊎◌, [], ◌∷◌, length}
 use Rattle.std.specs.Prelude.{List as Seq, None, Option, Some}
 use Rattle.std.proofs.lemmas.Bool.{eqb-true, or_parts}
 use Rattle.afr_base.specs.Bricks.{member}
@@ -17,7 +17,7 @@ use Rattle.afr_lines.specs.declared.request.Request.{Request}
 use Rattle.afr_lines.specs.declared.request.Request.TheVariants.{Apply, Index, List, Lock, Look, Mend, Post, Pre, ReadAttr, ReadAttrs, ReadBytes, ReadName, Settle, Unlock}
 use Rattle.afr_lines.specs.declared.lock.Domain.TheVariants.{Heal, Work}
 use Rattle.afr_plan.specs.declared.plan.Plan.{Plan}
-use Rattle.afr_model.specs.Following.{IsDue, KeepsToTask, ToCommand, ToRound}
+use Rattle.afr_model.specs.Following.{IsDue, KeepsToTask, ToCommand, ToCrawl, ToItem, ToRound}
 use Rattle.afr_model.specs.Healing.{heal_by, is_border, settled_at}
 use Rattle.afr_model.specs.Rounds.{heal_due}
 use Rattle.afr_model.specs.Showing.{among}
@@ -255,12 +255,14 @@ module _ (p : Plan) (L : Log) (moves : MovesExactly p.shape.n (kept_by p) L) (ho
     ]
 
   -- the heal that a HealBegin line begins is the one that is due
-  begin_due : (x : ActorId) (g : Gfid) (kind : Kind) → x.0 ≡ a → IsDue p (HealBegin x g kind) older → heal_due p (work a older) ≡ Some (g, kind)
+  begin_due : (x : ActorId) (g : Gfid) (kind : Kind) → x.0 ≡ a → IsDue false p (HealBegin x g kind) older → heal_due p (work a older) ≡ Some (g, kind)
   begin_due x g kind mine d = go d.0.keeps
     where
-      go : KeepsToTask p x.0 (HealBegin x g kind) older → heal_due p (work a older) ≡ Some (g, kind)
+      go : KeepsToTask false p x.0 (HealBegin x g kind) older → heal_due p (work a older) ≡ Some (g, kind)
       go (ToCommand c e k) = absurd (heal_begins_no_command p c x g kind (length older) (work x.0 older) k)
-      go (ToRound h b e k) = subst (λ o. heal_due p (work o older) ≡ Some (g, kind)) mine k
+      go (ToRound plain h b e k) = subst (λ o. heal_due p (work o older) ≡ Some (g, kind)) mine k
+      go (ToCrawl crawls who b e k) = absurd (true≢false (sym crawls))
+      go (ToItem crawls h item given k) = absurd (true≢false (sym crawls))
 
   module _ (x : ActorId) (g : Gfid) (kind : Kind) (q : Premises p (HealBegin x g kind ∷ older)) (calm : Calm a (HealBegin x g kind)) (h : Round p a older r) (may : MayHealBegin p.shape.n r g.0 kind) where
     abbrev begin : Line

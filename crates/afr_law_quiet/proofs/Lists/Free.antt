@@ -115,10 +115,10 @@ module _ (p : Plan) (a : ℕ) (ls base : List Line) (mine : AreMine a ls) (alone
       let before = sound_before p line (ls ++ base) s in
       let honest = sound_honest p (line ∷ (ls ++ base)) s in
       let cut = cut_of p L (line ∷ (ls ++ base)) whole s q (ask_by x b (Lock Heal area) Granted grant.took) (let past = held_past L (length (ls ++ base)) b q k in omega (arith, past)) grant.is in
-      let actor : IsActor p x = (turn_of p x (ask_by x b (Lock Heal area) Granted grant.took) cut.older (same_self x) cut.sound.follows).actor in
+      let actor : IsActor p x = (turn_of false p x (ask_by x b (Lock Heal area) Granted grant.took) cut.older (same_self x) cut.sound.follows).actor in
       let live : joined L (length (ls ++ base)) x b ≡ true = held_joined (start_of p (name_bound p)) (fault_in p.faults) L honest (length (ls ++ base)) x b q Heal area grant k in
       elim (alone x actor apart) [
-        | inl dead ↦ true≢false (sym (sym (joined_is L p x b (below_all p.shape.n b s.small low) (ls ++ base) whole.1) ∙ live) ∙ killed_apart p x b (ls ++ base) before.follows (still_killed x ls base dead))
+        | inl dead ↦ true≢false (sym (sym (joined_is L p x b (below_all p.shape.n b s.small low) (ls ++ base) whole.1) ∙ live) ∙ killed_apart false p x b (ls ++ base) before.follows (still_killed x ls base dead))
         | inr rests ↦ (let l = lone p.shape.n (start_of p (name_bound p)) (fault_in p.faults) L honest (sound_exactly p (line ∷ (ls ++ base)) s).moves (length (ls ++ base)) x in
             let at : place L (length (ls ++ base)) x ≡ Fresh = place_is L x (ls ++ base) whole.1 ∙ place_kept a x ls base mine apart ∙ rests_fresh x base rests in
             let w = l.locks b q area grant k in

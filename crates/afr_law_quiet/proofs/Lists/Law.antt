@@ -88,7 +88,7 @@ module _ (p : Plan) (a : ℕ) (high : 17 ≤ a) (b : BrickId) (base : List Line)
   goes (line ∷ ls) mine s ok = (
     record {
       keeps = at_brick line ls mine.1 (round_of p a (ls ++ base) line mine.0.0 s high);
-      healing = subst (λ (w : Work). IsHealing p.shape line w) (works_are a ls base mine.1 rests) (healing_of p a (ls ++ base) line b mine.0.0 s high (ap (slice_get (rounds_of p a)) (ended_same a ls base mine.1) ∙ is));
+      healing = subst (λ (w : Work). IsHealing p.shape line w) (works_are a ls base mine.1 rests) (healing_of p a (ls ++ base) line mine.0.0 s high);
       honest = s.honest.0;
       unfailed = (or_parts (tells_any_fault line) (has tells_any_fault (works ls base)) ok).0;
       free = free_of line ls mine.1 mine.0.0 s;
@@ -130,7 +130,7 @@ module _ (p : Plan) (a : ℕ) (high : 17 ≤ a) (b : BrickId) (base : List Line)
       of_line (Event event) step = tt
 
   -- ---- the whole round
-  finish : (ls : List Line) → AreMine a ls → Sound p (ls ++ base) → has tells_any_fault (works ls base) ≡ false → IsHealed p (works ls base) → IsListedRound p a b (ls ++ base)
+  finish : (ls : List Line) → AreMine a ls → Sound p (ls ++ base) → has tells_any_fault (works ls base) ≡ false → IsHealed (listed_by p (works ls base)) (works ls base) → IsListedRound p a b (ls ++ base)
   finish [] mine s ok ended = absurd (let e = ended.begun in cc e)
   finish (line ∷ ls) mine s ok ended =
       let g : Goes p b (line ∷ ls) base = goes (line ∷ ls) mine s ok in

@@ -12,7 +12,7 @@ use Rattle.afr_plan.specs.declared.plan.Plan.{Plan}
 use Rattle.afr_model.specs.Healing.{heal_by, is_border}
 use Rattle.afr_model.specs.Honest.{IsHonest}
 use Rattle.afr_model.specs.Quiet.{tells_any_fault}
-use Rattle.afr_model.specs.Rounds.{IsOfHeal, KeepsToRound, heal_due, object_healed}
+use Rattle.afr_model.specs.Rounds.{IsOfHeal, KeepsToRound, heal_due, listed_by, object_healed}
 use Rattle.afr_law_quiet.proofs.Lists.Runs.{AreMine, works}
 use Rattle.afr_law_quiet.proofs.Lists.Steps.{AsksBelow, Goes, IsFree}
 
@@ -61,7 +61,7 @@ module _ (p : Plan) (b : BrickId) (g : Gfid) (kind : Kind) (base : List Line) wh
   some_is : {A : Type 0} (x y : A) → Some x ≡ Some y → x ≡ y
   some_is x y e = cc e
 
-  of_heal : (r : Request) (w : Work) → IsOfHeal p r w → heal_due p w ≡ Some (g, kind) → object_healed r ≡ Some g
+  of_heal : (r : Request) (w : Work) → IsOfHeal (listed_by p w) r w → heal_due p w ≡ Some (g, kind) → object_healed r ≡ Some g
   of_heal r w k due =
       let same : (k.object, k.kind) ≡ (g, kind) = some_is (k.object, k.kind) (g, kind) (sym k.due ∙ due) in
       k.about ∙ ap (λ (x : Gfid × Kind). Some x.0) same

@@ -1,5 +1,5 @@
 -- What the law presumes of a log, and what follows from it for lines by their positions.
-use Rattle.std.proofs.Common.{◌<◌, ◌≤◌, arith, List, ◌∷◌, length}
+use Rattle.std.proofs.Common.{◌<◌, ◌≤◌, arith, List, ◌∷◌, false, length}
 use Rattle.afr_lines.specs.Log.{EachLine}
 use Rattle.afr_lines.specs.declared.line.Line.{Line}
 use Rattle.afr_plan.specs.declared.plan.Plan.{Plan}
@@ -24,7 +24,7 @@ pub record Sound (p : Plan) (log : List Line) : Type 0 where
   pub some : 0 < p.shape.n
   pub clients : length p.clients ≤ 16
   pub short : length log ≤ 4000000
-  pub follows : Follows p log
+  pub follows : Follows false p log
   pub honest : IsHonestLog p log
   pub lawful : IsLawfulExactly p log
   pub replied : Replied p log

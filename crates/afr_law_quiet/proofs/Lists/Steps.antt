@@ -70,10 +70,10 @@ module _ (p : Plan) (b : BrickId) where
       let e : told ≡ Given = (answered p a y Index told took base honest fine).0 in
       subst (λ (t : Told). listed_after p (Ask a y Index t took) base [] ≡ index_of (holds p base b.0)) (sym e) (ap (λ (c : BrickId). index_of (holds p base c.0)) k.1)
       )
-  first_listed (Ask a y r told took) base k honest fine = absurd (let i : IsOfHeal p r [] = k in let e = i.due in cc)
+  first_listed (Ask a y r told took) base k honest fine = absurd (let i : IsOfHeal [] r [] = k in let e = i.due in cc)
   first_listed (HealBegin a g kind) base k honest fine = absurd (let e : heal_due p [] ≡ Some (g, kind) = k in cc)
   first_listed (HealEnd a g kind said) base k honest fine = absurd (let e : heal_due p [] ≡ Some (g, kind) = k in cc)
-  first_listed (End a said) base k honest fine = absurd (let i : IsHealed p [] = k in let e = i.begun in cc)
+  first_listed (End a said) base k honest fine = absurd (let i : IsHealed [] [] = k in let e = i.begun in cc)
   first_listed (Begin a change) base k honest fine = absurd k
   first_listed (Event event) base k honest fine = absurd k
 

@@ -21,7 +21,7 @@ use Rattle.afr_lines.specs.declared.request.Request.{Request}
 use Rattle.afr_lines.specs.declared.request.Request.TheVariants.{Apply, Index, List as ListNames, Lock, Look, Mend, Post, Pre, ReadAttr, ReadAttrs, ReadBytes, ReadName, Settle, Unlock}
 use Rattle.afr_lines.specs.declared.lock.Domain.{Domain}
 use Rattle.afr_lines.specs.declared.lock.Domain.TheVariants.{Heal, Work as WorkDomain}
-use Rattle.afr_model.specs.Following.{Follows, KeepsToTask, ToCommand, ToRound}
+use Rattle.afr_model.specs.Following.{Follows, KeepsToTask, ToCommand, ToCrawl, ToItem, ToRound}
 use Rattle.afr_model.specs.Healing.{First, first_after, first_by, heal_by, whole_of}
 use Rattle.afr_model.specs.Honest.{IsHonest}
 use Rattle.afr_model.specs.Moved.{is_whole_by, len_in, pieces}
@@ -70,7 +70,7 @@ unlooked x low = none_view (view_at x no_looks) (from_table 5 (λ y. is_none (vi
 
 module _ (p : Plan) (a : ℕ) where
   abbrev pub IsTold : List Line → Exact → Type 0
-  IsTold log r = Follows p log → UnmovedIn p (work a log) r.law.object r.law.kind × (r.broken ≡ false → ShowsIn p.shape.n (work a log) r.law.object r.step r.part r.first_views r.law.raised)
+  IsTold log r = Follows false p log → UnmovedIn p (work a log) r.law.object r.law.kind × (r.broken ≡ false → ShowsIn p.shape.n (work a log) r.law.object r.step r.part r.first_views r.law.raised)
 
   -- ---- the first lock of a heal
   first_told : (older : List Line) (b g : ℕ) (told : Told) (took : Bool) → opens (place_of a older) (ask_by a b (Lock Heal (heal_area g)) told took) ≡ true
@@ -396,12 +396,14 @@ module _ (p : Plan) (a : ℕ) where
       old = was (joined.0 (same_self a) refl) follows.1
 
   -- a HealBegin line names the heal that is due
-  due_here : (older : List Line) (g : ℕ) (kind : Kind) → Follows p (heal_begin_by a g kind ∷ older) → heal_due p (work a older) ≡ Some (record { 0 = g }, kind)
+  due_here : (older : List Line) (g : ℕ) (kind : Kind) → Follows false p (heal_begin_by a g kind ∷ older) → heal_due p (work a older) ≡ Some (record { 0 = g }, kind)
   due_here older g kind follows = go follows.0.1.0.keeps
     where
-      go : KeepsToTask p a (heal_begin_by a g kind) older → heal_due p (work a older) ≡ Some (record { 0 = g }, kind)
+      go : KeepsToTask false p a (heal_begin_by a g kind) older → heal_due p (work a older) ≡ Some (record { 0 = g }, kind)
       go (ToCommand c e k) = absurd (heal_begins_no_command p c (record { 0 = a }) (record { 0 = g }) kind (length older) (work a older) k)
-      go (ToRound h b e k) = k
+      go (ToRound plain h b e k) = k
+      go (ToCrawl crawls who b e k) = absurd (true≢false (sym crawls))
+      go (ToItem crawls h item given k) = absurd (true≢false (sym crawls))
 
   begins_told : (older : List Line) (g : ℕ) (kind : Kind) → Premises p (heal_begin_by a g kind ∷ older) → force p a (heal_begin_by a g kind) older ≡ reg p a older → MayHealBegin p.shape.n (reg p a older) g kind
       → Known older (reg p a older) → Known (heal_begin_by a g kind ∷ older) (note p.shape.n (kept_by p) (reg p a older) (length older) (Some (heal_begin_by a g kind)))
@@ -450,7 +452,7 @@ module _ (p : Plan) (a : ℕ) where
       bytes more = may.later (later_of more) ∙ (areas_of p a (heal_begin_by a g kind) older premises same may.inside may.whole).bytes (later_of more)
 
   -- so it is after each line of a heal
-  pub told_now : (log : List Line) → Premises p log → Joined a log → Follows p log → (reg p a log).law.heal ≡ true → UnmovedIn p (work a log) (reg p a log).law.object (reg p a log).law.kind
+  pub told_now : (log : List Line) → Premises p log → Joined a log → Follows false p log → (reg p a log).law.heal ≡ true → UnmovedIn p (work a log) (reg p a log).law.object (reg p a log).law.kind
   told_now log premises joined follows on = (along p a Known firsts goes_told gives_told begins_told log premises joined on joined follows).0
     where
       firsts : (older : List Line) (b g : ℕ) (told : Told) (took : Bool) → Premises p (ask_by a b (Lock Heal (heal_area g)) told took ∷ older) → opens (place_of a older) (ask_by a b (Lock Heal (heal_area g)) told took) ≡ true → b < p.shape.n

@@ -1,5 +1,5 @@
 -- No heal of a round that nothing disturbs ends with a source that moved.
-use Rattle.std.proofs.Common.{◌≡◌, ℕ, suc, ◌+◌, ◌<◌, ◌≤◌, Bool, true, false, ◌&&◌, refl, sym, ap, ◌∙◌, subst, arith, true≢false, List, [], ◌∷◌, length, not}
+use Rattle.std.proofs.Common.{◌≡◌, ℕ, suc, ◌+◌, ◌<◌, ◌≤◌, Bool, true, false, ◌&&◌, refl, sym, ap, ◌∙◌, subst, arith, List, [], ◌∷◌, length, not, true≢false}
 use Rattle.std.specs.Prelude.{Option, None, Some, if◌then◌else◌, ◌==◌, filter, is_some, nat_lt, slice_get, slice_index}
 use Rattle.std.proofs.lemmas.Bool.{eq-eqb, eqb-true, or_left, or_right}
 use Rattle.std.proofs.lemmas.Bool.Decides.{nat_tests}
@@ -18,13 +18,12 @@ use Rattle.afr_choice.specs.Verdict.{accuses_at, copies_of, good_copies, holders
 use Rattle.afr_choice.specs.VerdictLemmas.{copies_below, member_copies}
 use Rattle.afr_choice.specs.declared.looked.Looked.{Looked}
 use Rattle.afr_object.specs.declared.entry.View.{View}
-use Rattle.afr_lines.specs.Work.{Work, ended, ends_work, is_end, is_of, work}
+use Rattle.afr_lines.specs.Work.{Work, is_end, is_of, work}
 use Rattle.afr_lines.specs.declared.line.Line.{Line}
 use Rattle.afr_lines.specs.declared.line.Line.TheVariants.{Ask, Begin, End, Event, HealBegin, HealEnd}
 use Rattle.afr_lines.specs.declared.reply.HealReply.{HealReply}
 use Rattle.afr_lines.specs.declared.reply.HealReply.TheVariants as healed
-use Rattle.afr_model.specs.Actors.{rounds_of}
-use Rattle.afr_model.specs.Following.{Follows, KeepsToTask, ToCommand, ToRound}
+use Rattle.afr_model.specs.Following.{Follows, KeepsToTask, ToCommand, ToCrawl, ToItem, ToRound}
 use Rattle.afr_model.specs.Healing.{First, busy_by, first_by, heal_by, source_of, whole_of}
 use Rattle.afr_model.specs.HealReplies.{by_first, by_moved, by_owner, heal_reply, is_clean, is_settled, or_else}
 use Rattle.afr_model.specs.Moved.{accuser, is_whole_by, len_in, moved_by, or_brick, pieces, unlike}
@@ -177,23 +176,25 @@ joined_of a (line ∷ older) e = (
     none (x ∷ w) h f = absurd (omega (arith, h, f))
 
 -- ---- each heal of the round
-module _ (p : Plan) (a : ℕ) (b : BrickId) (healer : 17 ≤ a) where
-  heal_end : (older : List Line) (g : Gfid) (kind : Kind) (said : HealReply) → Premises p (HealEnd (record { 0 = a }) g kind said ∷ older) → Joined a older → Follows p (HealEnd (record { 0 = a }) g kind said ∷ older) → Replied p (HealEnd (record { 0 = a }) g kind said ∷ older)
-      → slice_get (rounds_of p a) (ended a older) ≡ Some b → IsUnmoved g kind said older
-  heal_end older g kind said premises joined follows replied at x moved = reply_unmoved p.shape g kind (heal_by (work a older)) x (none_moved p (work a older) (reg p a older).law.object (reg p a older).law.kind g kind told due) (caused ∙ ap Some moved)
+module _ (p : Plan) (a : ℕ) (healer : 17 ≤ a) where
+  heal_end : (older : List Line) (g : Gfid) (kind : Kind) (said : HealReply) → Premises p (HealEnd (record { 0 = a }) g kind said ∷ older) → Joined a older → Follows false p (HealEnd (record { 0 = a }) g kind said ∷ older) → Replied p (HealEnd (record { 0 = a }) g kind said ∷ older)
+      → IsUnmoved g kind said older
+  heal_end older g kind said premises joined follows replied x moved = reply_unmoved p.shape g kind (heal_by (work a older)) x (none_moved p (work a older) (reg p a older).law.object (reg p a older).law.kind g kind told due) (caused ∙ ap Some moved)
     where
       line : Line
       line = HealEnd (record { 0 = a }) g kind said
 
       caused : heal_reply p.shape g kind (heal_by (work a older)) ≡ Some said
-      caused = (replied.0.round healer b at).caused
+      caused = (replied.0.round healer).caused
 
       due : heal_due p (work a older) ≡ Some (g, kind)
       due = go follows.0.1.0.keeps
         where
-          go : KeepsToTask p a (HealEnd (record { 0 = a }) g kind said) older → heal_due p (work a older) ≡ Some (g, kind)
+          go : KeepsToTask false p a (HealEnd (record { 0 = a }) g kind said) older → heal_due p (work a older) ≡ Some (g, kind)
           go (ToCommand c e k) = absurd (heal_ends_no_command p c (record { 0 = a }) g kind said (length older) (work a older) k)
-          go (ToRound h q e k) = k
+          go (ToRound plain h q e k) = k
+          go (ToCrawl crawls who b e k) = absurd (true≢false (sym crawls))
+          go (ToItem crawls h item given k) = absurd (true≢false (sym crawls))
 
       inside : (force p a line older).law.heal ≡ true
       inside = (may_own p a line older premises (same_self a)).inside
@@ -201,37 +202,25 @@ module _ (p : Plan) (a : ℕ) (b : BrickId) (healer : 17 ≤ a) where
       told : UnmovedIn p (work a older) (reg p a older).law.object (reg p a older).law.kind
       told = told_now p a older (earlier p line older premises) joined follows.1 (ap (λ (r : Exact). r.law.heal) (sym (in_heal_is p a _ (reg p a older) inside)) ∙ inside)
 
-  of_heal : (line : Line) (older : List Line) → is_of a line ≡ true → Premises p (line ∷ older) → Joined a older → Follows p (line ∷ older) → Replied p (line ∷ older) → slice_get (rounds_of p a) (ended a older) ≡ Some b → OfHeal IsUnmoved line older
-  of_heal (HealEnd x g kind said) older mine premises joined follows replied at = heal_end older g kind said (subst (λ (l : Line). Premises p (l ∷ older)) is premises) joined (subst (λ (l : Line). Follows p (l ∷ older)) is follows) (subst (λ (l : Line). Replied p (l ∷ older)) is replied) at
+  of_heal : (line : Line) (older : List Line) → is_of a line ≡ true → Premises p (line ∷ older) → Joined a older → Follows false p (line ∷ older) → Replied p (line ∷ older) → OfHeal IsUnmoved line older
+  of_heal (HealEnd x g kind said) older mine premises joined follows replied = heal_end older g kind said (subst (λ (l : Line). Premises p (l ∷ older)) is premises) joined (subst (λ (l : Line). Follows false p (l ∷ older)) is follows) (subst (λ (l : Line). Replied p (l ∷ older)) is replied)
     where
       is : HealEnd x g kind said ≡ HealEnd (record { 0 = a }) g kind said
       is = ap (λ (y : ℕ). HealEnd (record { 0 = y }) g kind said) (eqb-true x.0 a mine)
-  of_heal (Ask x y request told took) older mine premises joined follows replied at = tt
-  of_heal (Begin x change) older mine premises joined follows replied at = tt
-  of_heal (HealBegin x g kind) older mine premises joined follows replied at = tt
-  of_heal (End x said) older mine premises joined follows replied at = tt
-  of_heal (Event e) older mine premises joined follows replied at = tt
+  of_heal (Ask x y request told took) older mine premises joined follows replied = tt
+  of_heal (Begin x change) older mine premises joined follows replied = tt
+  of_heal (HealBegin x g kind) older mine premises joined follows replied = tt
+  of_heal (End x said) older mine premises joined follows replied = tt
+  of_heal (Event e) older mine premises joined follows replied = tt
 
-  not_ended : (line : Line) → is_end line ≡ false → ends_work a line ≡ false
-  not_ended (End x said) e = absurd (true≢false e)
-  not_ended (Ask x y request told took) e = refl
-  not_ended (Begin x change) e = refl
-  not_ended (HealBegin x g kind) e = refl
-  not_ended (HealEnd x g kind said) e = refl
-  not_ended (Event x) e = refl
-
-  pub each_heal : (log : List Line) → Premises p log → Joined a log → Follows p log → Replied p log → slice_get (rounds_of p a) (ended a log) ≡ Some b → EachHeal IsUnmoved (work a log)
-  each_heal [] premises joined follows replied at = tt
-  each_heal (line ∷ older) premises joined follows replied at = go (is_of a line) refl (λ more same. each_heal older (earlier p line older premises) more follows.1 replied.1 same)
+  pub each_heal : (log : List Line) → Premises p log → Joined a log → Follows false p log → Replied p log → EachHeal IsUnmoved (work a log)
+  each_heal [] premises joined follows replied = tt
+  each_heal (line ∷ older) premises joined follows replied = go (is_of a line) refl (λ more. each_heal older (earlier p line older premises) more follows.1 replied.1)
     where
-      own : is_of a line ≡ true → (Joined a older → slice_get (rounds_of p a) (ended a older) ≡ Some b → EachHeal IsUnmoved (work a older)) → (last : Bool) → is_end line ≡ last → EachHeal IsUnmoved (if last then [] else (line, older) ∷ work a older)
+      own : is_of a line ≡ true → (Joined a older → EachHeal IsUnmoved (work a older)) → (last : Bool) → is_end line ≡ last → EachHeal IsUnmoved (if last then [] else (line, older) ∷ work a older)
       own mine rest true e = tt
-      own mine rest false e = (
-          let same : slice_get (rounds_of p a) (ended a older) ≡ Some b = (λ i. slice_get (rounds_of p a) (if sym (not_ended line e) i then ended a older + 1 else ended a older)) ∙ at in
-          (of_heal line older mine premises (joined.0 mine e) follows replied same, rest (joined.0 mine e) same)
-          )
+      own mine rest false e = (of_heal line older mine premises (joined.0 mine e) follows replied, rest (joined.0 mine e))
 
-      go : (mine : Bool) → is_of a line ≡ mine → (Joined a older → slice_get (rounds_of p a) (ended a older) ≡ Some b → EachHeal IsUnmoved (work a older))
-          → EachHeal IsUnmoved (if mine then (if is_end line then [] else (line, older) ∷ work a older) else work a older)
+      go : (mine : Bool) → is_of a line ≡ mine → (Joined a older → EachHeal IsUnmoved (work a older)) → EachHeal IsUnmoved (if mine then (if is_end line then [] else (line, older) ∷ work a older) else work a older)
       go true e rest = own e rest (is_end line) refl
       go false e rest = subst (EachHeal IsUnmoved) (sym (joined.1 e)) tt

@@ -1,5 +1,5 @@
 -- What the settled heals of an undisturbed round leave.
-use Rattle.std.specs.Prelude.{◌≡◌, ℕ, ◌<◌, ◌≤◌, List, Some, length, slice_get}
+use Rattle.std.specs.Prelude.{◌≡◌, ℕ, ◌<◌, ◌≤◌, false, List, Some, length, slice_get}
 use Rattle.afr_base.specs.declared.ids.BrickId.{BrickId}
 use Rattle.afr_lines.specs.Log.{EachLine}
 use Rattle.afr_lines.specs.Work.{ended, work}
@@ -27,4 +27,4 @@ IsQuietKept p line older = Unit {0}
 -- so are all undisturbed rounds
 abbrev pub QuietRoundsAreRepaired : Type 0
 QuietRoundsAreRepaired =
-    (p : Plan) (log : List Line) → p.shape.n ≤ 5 → 0 < p.shape.n → length log ≤ 4000000 → Follows p log → Honest p log → IsLawfulExactly p log → Replied p log → EachLine (IsQuietKept p) log
+    (p : Plan) (log : List Line) → p.shape.n ≤ 5 → 0 < p.shape.n → length log ≤ 4000000 → Follows false p log → Honest p log → IsLawfulExactly p log → Replied p log → EachLine (IsQuietKept p) log

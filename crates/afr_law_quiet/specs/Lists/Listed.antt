@@ -1,5 +1,5 @@
 -- What a quiet round lists, and what each of its heals tells.
-use Rattle.std.specs.Prelude.{◌≡◌, ◌⊎◌, ◌↔◌, ℕ, ◌<◌, ◌≤◌, List, Some, length, slice_get}
+use Rattle.std.specs.Prelude.{◌≡◌, ◌⊎◌, ◌↔◌, ℕ, ◌<◌, ◌≤◌, false, List, Some, length, slice_get}
 use Rattle.afr_base.specs.Bricks.{below}
 use Rattle.afr_base.specs.declared.ids.BrickId.{BrickId}
 use Rattle.afr_base.specs.declared.ids.Gfid.{Gfid}
@@ -55,4 +55,4 @@ IsQuietListed p line older = Unit {0}
 abbrev pub QuietRoundsAreListed : Type 0
 QuietRoundsAreListed =
     (p : Plan) (log : List Line) → p.shape.n ≤ 5 → 0 < p.shape.n → length p.clients ≤ 16 → length log ≤ 4000000
-    → Follows p log → Honest p log → IsLawfulExactly p log → Replied p log → EachLine (IsQuietListed p) log
+    → Follows false p log → Honest p log → IsLawfulExactly p log → Replied p log → EachLine (IsQuietListed p) log

@@ -1,5 +1,5 @@
 -- No heal of a round that nothing disturbs ends with a source that moved.
-use Rattle.std.specs.Prelude.{◌≡◌, ◌<◌, ◌≤◌, List, Some, length, slice_get}
+use Rattle.std.specs.Prelude.{◌≡◌, ◌<◌, ◌≤◌, false, List, Some, length, slice_get}
 use Rattle.afr_base.specs.declared.ids.BrickId.{BrickId}
 use Rattle.afr_base.specs.declared.ids.Gfid.{Gfid}
 use Rattle.afr_base.specs.declared.ids.Kind.{Kind}
@@ -30,5 +30,5 @@ IsQuietUnmoved p line older = Unit {0}
 -- so it is at each line of a log that is the plan's, honest and lawful, whose replies have their causes
 abbrev pub QuietRoundsAreUnmoved : Type 0
 QuietRoundsAreUnmoved =
-    (p : Plan) (log : List Line) → p.shape.n ≤ 5 → 0 < p.shape.n → length log ≤ 4000000 → Follows p log → Honest p log → IsLawfulExactly p log → Replied p log
+    (p : Plan) (log : List Line) → p.shape.n ≤ 5 → 0 < p.shape.n → length log ≤ 4000000 → Follows false p log → Honest p log → IsLawfulExactly p log → Replied p log
     → EachLine (IsQuietUnmoved p) log

@@ -1,5 +1,5 @@
 -- What a round does that nothing disturbs, as a law of logs.
-use Rattle.std.specs.Prelude.{◌≡◌, ℕ, ◌<◌, ◌≤◌, List, Some, length, slice_get}
+use Rattle.std.specs.Prelude.{◌≡◌, ℕ, ◌<◌, ◌≤◌, false, List, Some, length, slice_get}
 use Rattle.afr_base.specs.declared.ids.BrickId.{BrickId}
 use Rattle.afr_lines.specs.declared.line.Line.{Line}
 use Rattle.afr_plan.specs.declared.plan.Plan.{Plan}
@@ -18,4 +18,4 @@ RoundsAreLow p = (a k : ℕ) (b : BrickId) → slice_get (rounds_of p a) k ≡ S
 abbrev pub QuietRoundsAreWhole : Type 0
 QuietRoundsAreWhole =
     (p : Plan) (log : List Line) → p.shape.n ≤ 5 → length p.clients ≤ 16 → length log ≤ 4000000
-    → Follows p log → Honest p log → IsLawfulExactly p log → Replied p log → RoundsAreLow p → AreQuietWhole p log
+    → Follows false p log → Honest p log → IsLawfulExactly p log → Replied p log → RoundsAreLow p → AreQuietWhole p log

@@ -1,6 +1,6 @@
 use Rattle.afr_healer.proofs.EveryLine.{every_line}
 use Rattle.afr_healer.proofs.BeforeNext.{can_step_next}
-use Rattle.afr_healer.proofs.Begins.{rounds_begin, rounds_end}
+use Rattle.afr_healer.proofs.Begins.{rounds_begin, rounds_end, tasks_begin}
 use Rattle.afr_healer.proofs.Others.{others_stay}
 use Rattle.afr_healer.proofs.laws.a_healer_keeps_its_round.Goals as goal
 
@@ -109,6 +109,9 @@ returns-clause-others c = others_stay c.a_heal_hears_what_it_asked.ensures.other
 
 pub returns-clause-begins : goal.returns-clause-begins
 returns-clause-begins c = rounds_begin c.a_heal_hears_what_it_asked.ensures.ready
+
+pub returns-clause-tasks : goal.returns-clause-tasks
+returns-clause-tasks c = tasks_begin c.a_heal_stays_sound.ensures.begins c.a_heal_tells_its_lines.ensures.begins c.a_heal_hears_what_it_asked.ensures.none
 
 pub returns-clause-ends : goal.returns-clause-ends
 returns-clause-ends c = rounds_end

@@ -6,7 +6,7 @@ item-brick-requires c =
     rw (← rounds_are c.args.plan.now c.args.a.0 c.item-rounds.result.now c.item-rounds.ensures) (c.requires.left c.index.result.now (found_at _ _ _ c.requires.within c.index.ensures))
 
 pub ready_round-requires-clause-within : goal.ready_round-requires-clause-within
-ready_round-requires-clause-within c =
+ready_round-requires-clause-within c = λ idle.
     c.requires.rounds c.index.result.now.ended c.item-brick.result.now (rw (rounds_are c.args.plan.now c.args.a.0 c.item-rounds.result.now c.item-rounds.ensures) c.item-brick.ensures)
 
 pub returns-clause-ok : goal.returns-clause-ok

@@ -1,4 +1,4 @@
-use Rattle.std.proofs.Common.{◌≤◌, arith, length, reverse, subst}
+use Rattle.std.proofs.Common.{◌≤◌, false, arith, length, reverse, subst}
 use Rattle.afr_volume.specs.State.{State}
 use Rattle.afr_model.specs.Sums.{AreSums}
 use Rattle.afr_volume.proofs.FreshReads.{all_fresh}
@@ -23,7 +23,7 @@ returns-clause-right c =
       blamed = kept.blamed;
       names = kept.names;
       safe = c.lawful_is_safe.ensures.exact c.self.inside.plan (reverse c.self.inside.log.items) kept.runnable.few few kept.honest kept.lawful;
-      fresh = all_fresh _ _ kept.follows kept.replied (c.reads_are_fresh.ensures.exact c.self.inside.plan (reverse c.self.inside.log.items) kept.runnable.few few kept.honest kept.lawful).1;
+      fresh = all_fresh false _ _ kept.follows kept.replied (c.reads_are_fresh.ensures.exact c.self.inside.plan (reverse c.self.inside.log.items) kept.runnable.few few kept.honest kept.lawful).1;
       causes = c.accusations_have_causes.ensures.exact c.self.inside.plan (reverse c.self.inside.log.items) kept.runnable.few few kept.honest kept.lawful;
       alike = c.nothing_diverges_unrecorded.ensures.exact c.self.inside.plan (reverse c.self.inside.log.items) kept.runnable.few few kept.honest kept.lawful;
       quiet = c.quiet_rounds_are_whole.ensures.whole c.self.inside.plan (reverse c.self.inside.log.items) kept.runnable.few kept.runnable.clients few kept.follows kept.honest kept.lawful kept.replied kept.runnable.rounds;
@@ -35,7 +35,7 @@ returns-clause-right c =
       since = (c.split_copies_missed.ensures.exact c.self.inside.plan (reverse c.self.inside.log.items) kept.runnable.few few kept.honest kept.lawful).0;
       missed = (c.split_copies_missed.ensures.exact c.self.inside.plan (reverse c.self.inside.log.items) kept.runnable.few few kept.honest kept.lawful).1;
       whole = c.a_copy_is_whole.ensures.exact c.self.inside.plan (reverse c.self.inside.log.items) kept.runnable.few few kept.honest kept.lawful;
-      available = c.changes_are_available.ensures.exact c.self.inside.plan (reverse c.self.inside.log.items) kept.runnable.few few kept.follows kept.honest kept.lawful kept.replied;
+      available = c.changes_are_available.ensures.exact false c.self.inside.plan (reverse c.self.inside.log.items) kept.runnable.few few kept.follows kept.honest kept.lawful kept.replied;
       rising = c.self.invariant.pacing.rising;
       within = c.self.invariant.pacing.within;
       unlocked = c.works_leave_no_lock.ensures.exact c.self.inside.plan (reverse c.self.inside.log.items) kept.runnable.few few kept.honest kept.lawful;
