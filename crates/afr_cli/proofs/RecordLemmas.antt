@@ -13,7 +13,7 @@ use Rattle.afr_lines.specs.declared.line.Line.{Line}
 use Rattle.afr_plan.specs.declared.plan.Plan.{Plan}
 use Rattle.afr_plan_print.specs.PrintedPlan.{plan_text}
 use Rattle.afr_plan_print.proofs.RoundTripLemmas.{printed_again, printed_short}
-use Rattle.afr_replay.proofs.LineLemmas.{recorded}
+use Rattle.afr_order.proofs.Replays.LineLemmas.{recorded}
 use Rattle.afr_volume.specs.Right.{IsRight}
 use Rattle.afr_cli.specs.Live.{IsRecorded, image_text}
 use Rattle.afr_cli.specs.Statuses.{IsSpelled}

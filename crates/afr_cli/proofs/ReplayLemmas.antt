@@ -14,7 +14,7 @@ use Rattle.afr_image.specs.Frame.{refusal}
 use Rattle.afr_image.specs.Images.{IsImageOf}
 use Rattle.afr_image.specs.Refusals.{IsRefused}
 use Rattle.afr_image.proofs.ReadLemmas.{never_both, one_fault}
-use Rattle.afr_replay.specs.Made.{DiffersAt, HasSteps, Retraces}
+use Rattle.afr_order.specs.Replays.Made.{DiffersAt, HasSteps, Retraces}
 use Rattle.afr_model.specs.Complete.{IsComplete}
 use Rattle.afr_model.specs.ReportHealers.{report_of}
 use Rattle.afr_volume.specs.State.{State, no_volume}

@@ -10,7 +10,7 @@ use Rattle.afr_image.specs.declared.image.ImageFault.{ImageFault}
 use Rattle.afr_image.specs.Frame.{refusal}
 use Rattle.afr_image.specs.Images.{IsImageOf}
 use Rattle.afr_image.specs.Refusals.{IsRefused}
-use Rattle.afr_replay.specs.Made.{DiffersAt, HasSteps, Retraces}
+use Rattle.afr_order.specs.Replays.Made.{DiffersAt, HasSteps, Retraces}
 use Rattle.afr_volume.specs.State.{State}
 use Rattle.afr_words.specs.Forms.{AskFor}
 use Rattle.afr_words.specs.declared.form.Form.TheVariants as kind

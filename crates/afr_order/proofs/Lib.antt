@@ -2,3 +2,4 @@ pub mod OrderLemmas
 pub mod PassLemmas
 pub mod EndLemmas
 pub mod OnwardLemmas
+pub mod Replays

@@ -1,2 +1,3 @@
 pub mod Ending
 pub mod Onward
+pub mod Replays

@@ -1,4 +1,4 @@
-//! Turns of actors in the stated order.
+//! Turns of actors in the stated order, and runs that were recorded made again.
 #![tactic(auto)]
 
 ghost use Rattle.std.specs.Prelude.{◌≡◌, IfOk, OnOk, []};
@@ -10,6 +10,7 @@ ghost use Rattle.afr_volume.specs.Going.{Ends, Goes, TakesFront, TakesPasses};
 ghost use Rattle.afr_rule.specs.Choosing.{IsRule};
 ghost use Rattle.afr_volume.specs.Right.{IsChosenBy, IsRight, KeepsChosen};
 
+mod remaking;
 mod rows;
 mod turns;
 
@@ -18,6 +19,7 @@ use afr_base::NoMemory;
 use afr_law_bound::an_ordered_run_ends;
 use afr_rule::{Candidate, Rules};
 use afr_volume::Volume;
+pub use remaking::{Replayed, image_of, replay, replay_steps, with_turns};
 
 /// Runs the plan that the volume was set up with, until every actor is done or the log is full: first its orders, then
 /// passes over all actors. Heals ask one of the rules for their sources, and clients the other for the copies that they

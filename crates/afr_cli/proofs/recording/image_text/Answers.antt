@@ -3,7 +3,7 @@ use Rattle.std.proofs.Common.{◌<◌, ◌^◌, ◌∙◌, ap, length, map, subs
 use Rattle.afr_plan.specs.declared.plan.Plan.{Plan}
 use Rattle.afr_plan_print.specs.PrintedPlan.{plan_text}
 use Rattle.afr_image.specs.Steps.{step_of}
-use Rattle.afr_replay.proofs.LineLemmas.{items_are, short_actors}
+use Rattle.afr_order.proofs.Replays.LineLemmas.{items_are, short_actors}
 use Rattle.afr_cli.proofs.RecordLemmas.{few_steps, image_is}
 use Rattle.afr_cli.proofs.recording.image_text.Goals as goal
 

@@ -1,5 +1,0 @@
-use Rattle.afr_replay.proofs.TurnsLemmas.{runs_with}
-use Rattle.afr_replay.proofs.turns.with_turns.Goals as goal
-
-pub returns-clause-runnable : goal.returns-clause-runnable
-returns-clause-runnable c = runs_with c.args.plan c.args.turns c.requires.some c.requires.few c.requires.runnable
