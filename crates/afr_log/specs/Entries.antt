@@ -125,12 +125,15 @@ is_both (entry.FileBoth brick actor len id bytes attrs) = true
 is_both (entry.DirBoth brick actor len id names attrs) = true
 is_both packed = false
 
+abbrev pub is_dir_or_both : Packed → Bool
+is_dir_or_both (entry.DirNames brick actor len id marks) = true
+is_dir_or_both (entry.DirAttrs brick actor len id marks) = true
+is_dir_or_both packed = is_both packed
+
 abbrev pub is_marked : Packed → Bool
 is_marked (entry.FileBytes brick actor len id marks) = true
 is_marked (entry.FileAttrs brick actor len id marks) = true
-is_marked (entry.DirNames brick actor len id marks) = true
-is_marked (entry.DirAttrs brick actor len id marks) = true
-is_marked packed = is_both packed
+is_marked packed = is_dir_or_both packed
 
 abbrev pub is_kept : Packed → Bool
 is_kept (entry.Kept place) = true

@@ -6,7 +6,7 @@ ghost use Rattle.afr_lines.specs.declared.answer.Told.TheVariants.{Seen};
 ghost use Rattle.afr_lines.specs.declared.line.Line.TheVariants.{Ask};
 ghost use Rattle.afr_lines.specs.declared.line.Line.{Line};
 ghost use Rattle.afr_lines.specs.declared.request.Request.TheVariants.{Look};
-ghost use Rattle.afr_log.specs.Entries.{IsThere, gfid_in, is_both, is_marked, line_of};
+ghost use Rattle.afr_log.specs.Entries.{IsThere, gfid_in, is_both, is_dir_or_both, is_marked, line_of};
 ghost use Rattle.afr_log.specs.Log.{asked_line};
 
 use crate::asked::Asker;
@@ -175,6 +175,16 @@ pub(crate) fn put_marked(entry: &Packed, request: &mut Request, told: &mut Told)
             *told = marked_view(What::File, len, Kind::Attrs, marks);
             look_of(actor, brick, id, request)
         }
+        _ => put_dir(entry, request, told),
+    }
+}
+
+/// The same of one that is no file's with numbers of one kind.
+fn put_dir(entry: &Packed, request: &mut Request, told: &mut Told) -> Asker
+    requires { is_dir_or_both entry.now ≡ true }
+    ensures { (kept : List Line) → line_of kept entry.now ≡ asked_line result request.new told.new }
+{
+    match *entry {
         Packed::DirNames {
             brick,
             actor,
@@ -213,15 +223,7 @@ fn put_both(entry: &Packed, request: &mut Request, told: &mut Told) -> Asker
             bytes,
             attrs,
         } => {
-            *told = Told::Seen(View {
-                what: What::File,
-                len,
-                marks: AllMarks {
-                    bytes: bytes.marks(),
-                    attrs: attrs.marks(),
-                    names: Marks::zero(),
-                },
-            });
+            *told = both_view(What::File, len, bytes.marks(), attrs.marks(), Marks::zero());
             look_of(actor, brick, id, request)
         }
         Packed::DirBoth {
@@ -232,15 +234,7 @@ fn put_both(entry: &Packed, request: &mut Request, told: &mut Told) -> Asker
             names,
             attrs,
         } => {
-            *told = Told::Seen(View {
-                what: What::Dir,
-                len,
-                marks: AllMarks {
-                    bytes: Marks::zero(),
-                    attrs: attrs.marks(),
-                    names: names.marks(),
-                },
-            });
+            *told = both_view(What::Dir, len, Marks::zero(), attrs.marks(), names.marks());
             look_of(actor, brick, id, request)
         }
         _ => unreachable!(),
@@ -276,5 +270,19 @@ fn marked_view(what: What, len: u32, kind: Kind, marks: Marks) -> Told
         what,
         len,
         marks: all,
+    })
+}
+
+fn both_view(what: What, len: u32, bytes: Marks, attrs: Marks, names: Marks) -> Told
+    ensures { result ≡ Seen (record { what = what; len = len; marks = record { bytes = bytes; attrs = attrs; names = names } }) }
+{
+    Told::Seen(View {
+        what,
+        len,
+        marks: AllMarks {
+            bytes,
+            attrs,
+            names,
+        },
     })
 }

@@ -101,11 +101,11 @@ a_command_heals_nothing keeps = keeps
 
 -- ---- turns
 -- the client looks at the root
-pub the_client_looks : IsTurnOf plan 1 (look_root 0) []
+pub the_client_looks : IsTurnOf false plan 1 (look_root 0) []
 the_client_looks = record { actor = IsActor.Client (omega arith) (omega arith); alive = refl; keeps = KeepsToTask.ToCommand writes refl tt }
 
 -- no client has the number 2
-pub no_second_client : IsTurnOf plan 2 (look_root 0) [] → ⊥
+pub no_second_client : IsTurnOf false plan 2 (look_root 0) [] → ⊥
 no_second_client turn = nobody turn.actor
   where
     nobody : IsActor plan 2 → ⊥
@@ -113,17 +113,19 @@ no_second_client turn = nobody turn.actor
     nobody (IsActor.Healer least most) = absurd (omega (arith, least))
 
 -- a killed client writes nothing
-pub no_line_after_a_kill : IsTurnOf plan 1 (look_root 0) (line_of.Event (event.Kill client) ∷ []) → ⊥
+pub no_line_after_a_kill : IsTurnOf false plan 1 (look_root 0) (line_of.Event (event.Kill client) ∷ []) → ⊥
 no_line_after_a_kill turn = passes turn.alive
 
 -- a client that has ended its last command does neither
-pub no_line_after_the_last_end : KeepsToTask plan 1 (look_root 0) (ends (reply.Ok good.Done) ∷ []) → ⊥
+pub no_line_after_the_last_end : KeepsToTask false plan 1 (look_root 0) (ends (reply.Ok good.Done) ∷ []) → ⊥
 no_line_after_the_last_end (KeepsToTask.ToCommand command has_it keeps) = from_none _ has_it
-no_line_after_the_last_end (KeepsToTask.ToRound healer b has_it keeps) = absurd (omega (arith, healer))
+no_line_after_the_last_end (KeepsToTask.ToRound plain healer b has_it keeps) = absurd (omega (arith, healer))
+no_line_after_the_last_end (KeepsToTask.ToCrawl crawls first b has_it keeps) = absurd (omega (arith, first))
+no_line_after_the_last_end (KeepsToTask.ToItem crawls healer item given keeps) = absurd (omega (arith, healer))
 
 -- the healer asks the index of its round's brick
-pub the_healer_asks_its_index : KeepsToTask plan 17 (heal_ask 0 request.Index told.Given) []
-the_healer_asks_its_index = KeepsToTask.ToRound (omega arith) (brick 0) refl (refl, refl)
+pub the_healer_asks_its_index : KeepsToTask false plan 17 (heal_ask 0 request.Index told.Given) []
+the_healer_asks_its_index = KeepsToTask.ToRound refl (omega arith) (brick 0) refl (refl, refl)
 
 -- ---- events
 -- brick 2 is stopped after three lines
@@ -152,17 +154,17 @@ it_does_not_come_early next = from_some (λ it. it.at ≤ 0 → ⊥) stops next.
 
 -- ---- lines
 -- the first line of a run
-pub the_first_look_follows : Follows plan (look_root 0 ∷ [])
+pub the_first_look_follows : Follows false plan (look_root 0 ∷ [])
 the_first_look_follows = ((omega arith, (the_client_looks, λ planned same. from_none planned same)), tt)
 
 -- a line past the plan's last turn
-pub no_line_past_the_turns : IsFollowing (record plan { turns = 0 }) (look_root 0) [] → ⊥
+pub no_line_past_the_turns : IsFollowing false (record plan { turns = 0 }) (look_root 0) [] → ⊥
 no_line_past_the_turns following = absurd (omega (arith, following.0))
 
 -- a line in place of the event that is due
-pub no_line_before_the_event : IsFollowing stopping (look_root 0) (at_each look_root []) → ⊥
+pub no_line_before_the_event : IsFollowing false stopping (look_root 0) (at_each look_root []) → ⊥
 no_line_before_the_event following = the_event_is_due following.1.1
 
 -- so is a log with such a line
-pub a_log_past_the_turns : Follows (record plan { turns = 0 }) (look_root 0 ∷ []) → ⊥
+pub a_log_past_the_turns : Follows false (record plan { turns = 0 }) (look_root 0 ∷ []) → ⊥
 a_log_past_the_turns follows = no_line_past_the_turns follows.0

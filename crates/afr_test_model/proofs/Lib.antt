@@ -12,6 +12,7 @@ pub mod Following
 pub mod Blamed
 pub mod HealWords
 pub mod Rounds
+pub mod Crawl
 pub mod HealReplies
 pub mod Splits
 pub mod Quiet

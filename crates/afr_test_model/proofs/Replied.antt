@@ -14,7 +14,7 @@ use Rattle.afr_test_model.proofs.Words.{ask, client, ends, file, look_root, plan
 pub a_look_is_of_the_command : IsOfTask plan client (look_root 0) []
 a_look_is_of_the_command = record {
   command = λ command same. from_some (λ it. IsOf plan it (look_root 0) (work_of [])) writes command (record { unbegun = refl; unread = refl; object = refl; locked = λ area locks. from_none area locks }) same;
-  round = λ healer b same. absurd (omega (arith, healer));
+  round = λ healer. absurd (omega (arith, healer));
 }
 
 -- so is a log of that line

@@ -1,5 +1,5 @@
 -- The replies of that round: each heal and the round end with their cause, nothing disturbed them, and nothing is left.
-use Rattle.std.specs.Prelude.{◌≡◌, ◌⊎◌, ℕ, ◌≤◌, ◌||◌, true, List, [], Some, codes, slice_get, refl}
+use Rattle.std.specs.Prelude.{◌≡◌, ◌⊎◌, ℕ, ◌≤◌, ◌||◌, true, List, [], codes, refl}
 use Rattle.std.specs.Fmt.{digits}
 use Rattle.uuid.specs.Text.{by_index}
 use Rattle.std.proofs.Common.{arith, inr, subst, sym}
@@ -9,7 +9,7 @@ use Rattle.afr_base.specs.declared.ids.Kind.TheVariants.{Attrs, Bytes}
 use Rattle.afr_lines.specs.Work.{Work, ended, is_killed, work}
 use Rattle.afr_lines.specs.declared.line.Line.{Line}
 use Rattle.afr_lines.specs.declared.reply.HealReply.TheVariants as healed
-use Rattle.afr_model.specs.Actors.{IsActor, is_done, rounds_of}
+use Rattle.afr_model.specs.Actors.{IsActor, is_done}
 use Rattle.afr_model.specs.Blamed.{AreBlamed}
 use Rattle.afr_model.specs.Complete.{IsFinished}
 use Rattle.afr_model.specs.HealReplies.{IsHealAnswered, IsHealAsked, IsHealing}
@@ -24,9 +24,9 @@ use Rattle.afr_test_model.proofs.HealReplies.{is_failed_reply}
 use Rattle.afr_test_model.proofs.HealWords.{heal_of}
 use Rattle.afr_test_model.proofs.Means.{each_of_three, from_none, three, told_apart, two}
 use Rattle.afr_test_model.proofs.Skipping.{from_members}
-use Rattle.afr_test_model.proofs.WholeWrite.{failing, a_write_follows_its_plan, a_write_is_honest, every_line_is_of_the_write, a_write_accuses_the_one_that_missed_it}
+use Rattle.afr_test_model.proofs.WholeWrite.{failing, every_line_is_of_the_write, a_write_accuses_the_one_that_missed_it}
 use Rattle.afr_test_model.proofs.WholeWrite as client_part
-use Rattle.afr_test_model.proofs.Words.{brick, file, healer}
+use Rattle.afr_test_model.proofs.Words.{file, healer}
 use Rattle.afr_test_model.proofs.WholeRound.{attributes_looked, bytes_copied, bytes_settled, healed_after, round_after, whole}
 
 -- ---- the heals
@@ -65,39 +65,39 @@ unfolding below
 the_bytes_were_settled = record { caused = refl; failed = λ same. absurd (told_apart is_failed_reply _ _ refl refl (sym same)); asked = λ free. bytes_asked }
 
 -- a line of the healer is of its only round
-task : {line : Line} {older : List Line} → slice_get (rounds_of failing 17) (ended 17 older) ≡ Some (brick 0) → IsHealing failing.shape line (work 17 older) → IsOfTask failing healer line older
-task first heals = record { command = λ it same. from_none it same; round = λ least b same. heals }
+task : {line : Line} {older : List Line} → IsHealing failing.shape line (work 17 older) → IsOfTask failing healer line older
+task heals = record { command = λ it same. from_none it same; round = λ least. heals }
 
 -- the lines of the first heal
 attributes_are_of_it : Replied failing (attributes_looked client_part.whole)
 attributes_are_of_it =
-    three (task refl tt) (task refl tt) (task refl tt)
-    (three (task refl tt) (task refl tt) (task refl tt)
-    (three (task refl tt) (task refl tt) (task refl tt) (
-      task refl tt,
-      three (task refl tt) (task refl tt) (task refl tt)
-          (three (task refl tt) (task refl tt) (task refl tt) (task refl tt, every_line_is_of_the_write)),
+    three (task tt) (task tt) (task tt)
+    (three (task tt) (task tt) (task tt)
+    (three (task tt) (task tt) (task tt) (
+      task tt,
+      three (task tt) (task tt) (task tt)
+          (three (task tt) (task tt) (task tt) (task tt, every_line_is_of_the_write)),
     )))
 
 -- those of the second, up to its settling
 bytes_are_of_it : Replied failing (bytes_copied client_part.whole)
 bytes_are_of_it =
-    three (task refl tt) (task refl tt) (task refl tt)
-    (two (task refl tt) (task refl tt)
-    (three (task refl tt) (task refl tt) (task refl tt) (
-      task refl tt,
-      three (task refl tt) (task refl tt) (task refl tt)
-          (three (task refl tt) (task refl tt) (task refl tt) (task refl the_attributes_had_nothing_to_heal, attributes_are_of_it)),
+    three (task tt) (task tt) (task tt)
+    (two (task tt) (task tt)
+    (three (task tt) (task tt) (task tt) (
+      task tt,
+      three (task tt) (task tt) (task tt)
+          (three (task tt) (task tt) (task tt) (task the_attributes_had_nothing_to_heal, attributes_are_of_it)),
     )))
 
 -- each line is of the round
 pub every_line_is_of_the_round : Replied failing whole
 unfolding below
 every_line_is_of_the_round =
-    two (task refl refl) (task refl the_bytes_were_settled)
-    (three (task refl tt) (task refl tt) (task refl tt)
-    (three (task refl tt) (task refl tt) (task refl tt)
-    (three (task refl (record { holder = refl; once = refl; seen = refl })) (task refl (record { holder = refl; once = refl; seen = refl })) (task refl (record { holder = refl; once = refl; seen = refl })) bytes_are_of_it)))
+    two (task refl) (task the_bytes_were_settled)
+    (three (task tt) (task tt) (task tt)
+    (three (task tt) (task tt) (task tt)
+    (three (task (record { holder = refl; once = refl; seen = refl })) (task (record { holder = refl; once = refl; seen = refl })) (task (record { holder = refl; once = refl; seen = refl })) bytes_are_of_it)))
 
 -- ---- the rest
 -- the round accuses nobody further

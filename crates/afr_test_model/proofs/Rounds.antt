@@ -77,7 +77,7 @@ pub no_heal_before_the_index : KeepsToRound plan (brick 0) (heals Attrs) (round_
 no_heal_before_the_index keeps = from_none _ keeps
 
 -- the lines of a heal are about its object
-pub a_heal_looks_at_its_object : IsOfHeal plan (request.Look file) (round_of listed)
+pub a_heal_looks_at_its_object : IsOfHeal (listed_by plan (round_of listed)) (request.Look file) (round_of listed)
 a_heal_looks_at_its_object = record { object = file; kind = Attrs; due = refl; about = refl }
 
 -- the object that is due has the number of the root
@@ -91,7 +91,7 @@ object_due None = None
 object_due (Some (of, kind)) = Some of
 
 -- and about no other
-pub a_heal_looks_at_no_other_object : IsOfHeal plan (request.Look root) (round_of listed) → ⊥
+pub a_heal_looks_at_no_other_object : IsOfHeal (listed_by plan (round_of listed)) (request.Look root) (round_of listed) → ⊥
 a_heal_looks_at_no_other_object heal = told_apart is_of_root _ _ refl refl (heal.about ∙ sym (ap object_due heal.due))
 
 -- a heal reads no name

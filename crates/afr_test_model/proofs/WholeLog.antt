@@ -56,11 +56,11 @@ whole = end_line ∷ list_line ∷ at_each look_root []
 -- ---- the plan
 -- a line of the client's only command
 row : {line : Line} {older : List Line} → length older < 100 → is_killed 1 older ≡ false → slice_get (script_of listing 1) (ended 1 older) ≡ Some lists → KeepsTo listing lists line (length older) (work 1 older)
-    → (length older < 100) × (IsTurnOf listing 1 line older × NoneDue listing older)
+    → (length older < 100) × (IsTurnOf false listing 1 line older × NoneDue listing older)
 row few alive first keeps = (few, (record { actor = IsActor.Client (omega arith) (omega arith); alive = alive; keeps = KeepsToTask.ToCommand lists first keeps }, λ planned same. from_none planned same))
 
 -- each line is what the plan has for its moment
-pub a_list_follows_its_plan : Follows listing whole
+pub a_list_follows_its_plan : Follows false listing whole
 a_list_follows_its_plan = two (row (omega arith) refl refl tt) (row (omega arith) refl refl tt) (three (row (omega arith) refl refl tt) (row (omega arith) refl refl tt) (row (omega arith) refl refl tt) tt)
 
 -- each line was told what its brick then gave
@@ -85,7 +85,7 @@ a_wrong_view_is_not_honest honest = told_apart (λ (outcome : RequestOutcome). i
 -- ---- the command
 -- a line of the client is of its only command
 task : {line : Line} {older : List Line} → slice_get (script_of listing 1) (ended 1 older) ≡ Some lists → IsAbout listing lists line (work 1 older) → IsOfTask listing client line older
-task {line = line} {older = older} first about = record { command = λ it same. from_some (λ c. IsOf listing c line (work 1 older)) lists it about (sym first ∙ same); round = λ healer b same. absurd (omega (arith, healer)) }
+task {line = line} {older = older} first about = record { command = λ it same. from_some (λ c. IsOf listing c line (work 1 older)) lists it about (sym first ∙ same); round = λ healer. absurd (omega (arith, healer)) }
 
 -- a look at the root, where nothing is locked
 look : {b : ℕ} {w : Work} → has begins_attempt w ≡ false → reading_by listing w ≡ NotAsked → path_by listing w ≡ At 0 root_entry → LooksHere listing lists root b w

@@ -19,7 +19,7 @@ use Rattle.afr_model.specs.Actors.{IsActor, rounds_of}
 use Rattle.afr_model.specs.Following.{Follows, IsTurnOf, KeepsToTask, NoneDue}
 use Rattle.afr_model.specs.Healing.{whole_of}
 use Rattle.afr_model.specs.Honest.{Honest}
-use Rattle.afr_model.specs.Rounds.{IsOfHeal, KeepsToRound, heal_due, object_healed}
+use Rattle.afr_model.specs.Rounds.{IsOfHeal, KeepsToRound, heal_due, listed_by, object_healed}
 use Rattle.afr_test_model.proofs.HealWords.{heal_ends, index, less_0, less_1, less_2, opened, raise, settle}
 use Rattle.afr_test_model.proofs.Means.{from_none, three, two}
 use Rattle.afr_test_model.proofs.WholeWrite.{failing, a_write_follows_its_plan, a_write_is_honest, every_line_is_of_the_write, a_write_accuses_the_one_that_missed_it}
@@ -58,16 +58,16 @@ whole = round_after client_part.whole
 
 -- ---- the plan
 -- a line is about the object of the heal that is due
-of_heal : {asked : Request} {w : Work} (kind : Kind) → heal_due failing w ≡ Some (file, kind) → object_healed asked ≡ Some file → IsOfHeal failing asked w
+of_heal : {asked : Request} {w : Work} (kind : Kind) → heal_due failing w ≡ Some (file, kind) → object_healed asked ≡ Some file → IsOfHeal (listed_by failing w) asked w
 of_heal kind due about = record { object = file; kind = kind; due = due; about = about }
 
 -- a line of the healer's only round
 row : {line : Line} {older : List Line} → length older < 100 → is_killed 17 older ≡ false → slice_get (rounds_of failing 17) (ended 17 older) ≡ Some (brick 0) → KeepsToRound failing (brick 0) line (work 17 older)
-    → (length older < 100) × (IsTurnOf failing 17 line older × NoneDue failing older)
-row few alive first keeps = (few, (record { actor = IsActor.Healer (omega arith) (omega arith); alive = alive; keeps = KeepsToTask.ToRound (omega arith) (brick 0) first keeps }, λ planned same. from_none planned same))
+    → (length older < 100) × (IsTurnOf false failing 17 line older × NoneDue failing older)
+row few alive first keeps = (few, (record { actor = IsActor.Healer (omega arith) (omega arith); alive = alive; keeps = KeepsToTask.ToRound refl (omega arith) (brick 0) first keeps }, λ planned same. from_none planned same))
 
 -- the index comes first, and then the heal of the attributes
-attributes_follow : Follows failing (opened Attrs (index 0 ∷ client_part.whole))
+attributes_follow : Follows false failing (opened Attrs (index 0 ∷ client_part.whole))
 attributes_follow =
     three (row (omega arith) refl refl (of_heal Attrs refl refl)) (row (omega arith) refl refl (of_heal Attrs refl refl)) (row (omega arith) refl refl (of_heal Attrs refl refl)) (
       row (omega arith) refl refl refl,
@@ -76,7 +76,7 @@ attributes_follow =
     )
 
 -- it ends, and that of the bytes comes next
-bytes_follow : Follows failing (opened Bytes (heal_ends Attrs healed.Nothing ∷ attributes_looked client_part.whole))
+bytes_follow : Follows false failing (opened Bytes (heal_ends Attrs healed.Nothing ∷ attributes_looked client_part.whole))
 bytes_follow =
     three (row (omega arith) refl refl (of_heal Bytes refl refl)) (row (omega arith) refl refl (of_heal Bytes refl refl)) (row (omega arith) refl refl (of_heal Bytes refl refl)) (
       row (omega arith) refl refl refl,
@@ -89,20 +89,20 @@ bytes_follow =
     )
 
 -- they are copied
-copies_follow : Follows failing (bytes_copied client_part.whole)
+copies_follow : Follows false failing (bytes_copied client_part.whole)
 copies_follow =
     three (row (omega arith) refl refl (of_heal Bytes refl refl)) (row (omega arith) refl refl (of_heal Bytes refl refl)) (row (omega arith) refl refl (of_heal Bytes refl refl))
     (two (row (omega arith) refl refl (of_heal Bytes refl refl)) (row (omega arith) refl refl (of_heal Bytes refl refl)) bytes_follow)
 
 -- and settled
-settling_follows : Follows failing (bytes_settled client_part.whole)
+settling_follows : Follows false failing (bytes_settled client_part.whole)
 settling_follows =
     three (row (omega arith) refl refl (of_heal Bytes refl refl)) (row (omega arith) refl refl (of_heal Bytes refl refl)) (row (omega arith) refl refl (of_heal Bytes refl refl))
     (three (row (omega arith) refl refl (of_heal Bytes refl refl)) (row (omega arith) refl refl (of_heal Bytes refl refl)) (row (omega arith) refl refl (of_heal Bytes refl refl))
     (three (row (omega arith) refl refl (of_heal Bytes refl refl)) (row (omega arith) refl refl (of_heal Bytes refl refl)) (row (omega arith) refl refl (of_heal Bytes refl refl)) copies_follow))
 
 -- each line is what the plan has for its moment
-pub a_round_follows_its_plan : Follows failing whole
+pub a_round_follows_its_plan : Follows false failing whole
 a_round_follows_its_plan = two (row (omega arith) refl refl (record { first = _; older = _; begun = refl; done = refl })) (row (omega arith) refl refl refl) settling_follows
 
 -- each line was told what its brick then gave

@@ -58,29 +58,29 @@ a_write_is_honest = (tt, three refl refl refl (two refl refl (two refl refl (thr
 -- ---- the plan
 -- a line of the client's only command
 row : {line : Line} {older : List Line} → length older < 100 → is_killed 1 older ≡ false → slice_get (script_of failing 1) (ended 1 older) ≡ Some writes → KeepsTo failing writes line (length older) (work 1 older)
-    → (length older < 100) × (IsTurnOf failing 1 line older × NoneDue failing older)
+    → (length older < 100) × (IsTurnOf false failing 1 line older × NoneDue failing older)
 row few alive first keeps = (few, (record { actor = IsActor.Client (omega arith) (omega arith); alive = alive; keeps = KeepsToTask.ToCommand writes first keeps }, λ planned same. from_none planned same))
 
 -- the path was read as the plan has it
-led_follows : Follows failing led_to_file
+led_follows : Follows false failing led_to_file
 led_follows = (
   row (omega arith) refl refl (record { read = 0; object = root_entry; stands = refl; asked = refl; next = refl }),
   three (row (omega arith) refl refl tt) (row (omega arith) refl refl tt) (row (omega arith) refl refl tt) tt,
 )
 
 -- so was the file locked and looked at
-ready_follows : Follows failing ready
+ready_follows : Follows false failing ready
 ready_follows =
     three (row (omega arith) refl refl tt) (row (omega arith) refl refl tt) (row (omega arith) refl refl tt)
     (three (row (omega arith) refl refl tt) (row (omega arith) refl refl tt) (row (omega arith) refl refl tt) led_follows)
 
 -- the change is the one that the words name
-prepared_follows : Follows failing prepared
+prepared_follows : Follows false failing prepared
 prepared_follows =
     three (row (omega arith) refl refl tt) (row (omega arith) refl refl tt) (row (omega arith) refl refl tt) (row (omega arith) refl refl (refl, record { object = file_entry; led = refl; named = refl }), ready_follows)
 
 -- each line is what the plan has for its moment
-pub a_write_follows_its_plan : Follows failing whole
+pub a_write_follows_its_plan : Follows false failing whole
 a_write_follows_its_plan = (
   row (omega arith) refl refl tt,
   three (row (omega arith) refl refl tt) (row (omega arith) refl refl tt) (row (omega arith) refl refl tt)
@@ -91,7 +91,7 @@ a_write_follows_its_plan = (
 -- ---- the command
 -- a line of the client is of its only command
 task : {line : Line} {older : List Line} → slice_get (script_of failing 1) (ended 1 older) ≡ Some writes → IsAbout failing writes line (work 1 older) → IsOfTask failing client line older
-task {line = line} {older = older} first about = record { command = λ it same. from_some (λ c. IsOf failing c line (work 1 older)) writes it about (sym first ∙ same); round = λ healer b same. absurd (omega (arith, healer)) }
+task {line = line} {older = older} first about = record { command = λ it same. from_some (λ c. IsOf failing c line (work 1 older)) writes it about (sym first ∙ same); round = λ healer. absurd (omega (arith, healer)) }
 
 -- the attempt went through its phases where it could
 carried : WentThroughPhases failing writes write_change (work_of released)

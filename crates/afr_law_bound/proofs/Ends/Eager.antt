@@ -91,7 +91,7 @@ held_few p (line ∷ older) f eager = go (is_held_back line) refl (held_few p ol
         → one_if h + held_lines older ≤ length (actors_of p) * ((if h then 0 else 1) + other_lines older) + backs p (line ∷ older)
     go true e low = (
         let w = owner_of line e in
-        let actor = (turn_of p w.0 line older w.1 f.kept.follows).actor in
+        let actor = (turn_of false p w.0 line older w.1 f.kept.follows).actor in
         let more = one_back p line older e w.0 w.1 actor (eager.0 e w.0 w.1) in
         omega (arith, low, more)
         )
@@ -156,4 +156,4 @@ eager_ends p log kept within eager a actor undone =
     let others = others_few p log facts in
     let whole = left_opening p in
     sums (length log) (held_lines log) (other_lines log) (length p.events) (events_made log) (length (actors_of p)) (total (whole_cost p) (actors_of p) + length p.faults) (total turns_in p.go) (backs p log)
-    (all_lines log) (held_few p log facts eager) (few_backs p log) (omega (arith, some, more, others, whole)) (few_events p log kept.follows) (some_actor a (actors_of p) (actor_in p a actor))
+    (all_lines log) (held_few p log facts eager) (few_backs p log) (omega (arith, some, more, others, whole)) (few_events false p log kept.follows) (some_actor a (actors_of p) (actor_in p a actor))

@@ -254,14 +254,14 @@ left_opening p =
     one false = omega arith
 
 -- no more events come than the plan has
-pub few_events : (p : Plan) (log : List Line) → Follows p log → events_made log ≤ length p.events
-few_events p [] f = omega arith
-few_events p (Event e ∷ older) f = (let w = slice_get_within p.events (events_made older) f.0.1.planned f.0.1.next in omega (arith, w))
-few_events p (Ask a b r told took ∷ older) f = few_events p older f.1
-few_events p (Begin a change ∷ older) f = few_events p older f.1
-few_events p (HealBegin a g kind ∷ older) f = few_events p older f.1
-few_events p (End a said ∷ older) f = few_events p older f.1
-few_events p (HealEnd a g kind said ∷ older) f = few_events p older f.1
+pub few_events : (crawl : Bool) (p : Plan) (log : List Line) → Follows crawl p log → events_made log ≤ length p.events
+few_events crawl p [] f = omega arith
+few_events crawl p (Event e ∷ older) f = (let w = slice_get_within p.events (events_made older) f.0.1.planned f.0.1.next in omega (arith, w))
+few_events crawl p (Ask a b r told took ∷ older) f = few_events crawl p older f.1
+few_events crawl p (Begin a change ∷ older) f = few_events crawl p older f.1
+few_events crawl p (HealBegin a g kind ∷ older) f = few_events crawl p older f.1
+few_events crawl p (End a said ∷ older) f = few_events crawl p older f.1
+few_events crawl p (HealEnd a g kind said ∷ older) f = few_events crawl p older f.1
 
 pub some_actor : (a : ℕ) (actors : List ℕ) → In a actors → 0 < length actors
 some_actor a [] h = absurd h
@@ -288,7 +288,7 @@ ends_within p log kept within order a actor undone =
     counted_length = run_length p order.turns [] log run
 
     events : events_made log ≤ length p.events
-    events = few_events p log kept.follows
+    events = few_events false p log kept.follows
 
     whole : left p [] ≤ total (whole_cost p) (actors_of p) + length p.faults
     whole = left_opening p

@@ -40,10 +40,10 @@ two_or_one line = go (is_held_back line) (is_failed_unlock line)
 
 module _ (p : Plan) (line : Line) (older : List Line) (f : Facts p (line ∷ older)) where
   task : (a : ℕ) → is_of a line ≡ true → HasTask p a (ended a older)
-  task a mine = task_here p a line older f.kept.clients (turn_of p a line older mine f.kept.follows)
+  task a mine = task_here p a line older f.kept.clients (turn_of false p a line older mine f.kept.follows)
 
   alive : (a : ℕ) → is_of a line ≡ true → is_killed a older ≡ false
-  alive a mine = (turn_of p a line older mine f.kept.follows).alive
+  alive a mine = (turn_of false p a line older mine f.kept.follows).alive
 
   own_counts : (a : ℕ) → is_of a line ≡ true → counted line ≡ 1 → unspent p (line ∷ older) a < unspent p older a
   own_counts a mine one = (let c = some_cost p a (ended a older) (task a mine).left in counts p a line older mine (alive a mine) c.0 c.1 f.within.0 one)

@@ -107,7 +107,7 @@ held_waits p older a b area owner took k =
     let up : RisesTo p.shape.n (present p.shape.n (kept_by p) (by_position (line ∷ older)) (length older) a.0).law b.0 area = subst (λ (r : Exact). RisesTo p.shape.n r.law b.0 area) (sym (present_register p a.0 line older)) k.rising.0 in
     let w = told_waits p.shape.n (start_of p (name_bound p)) (fault_in p.faults) (by_position (line ∷ older)) f.honest f.moves (length older) a.0 b.0 area owner took is up in
     let live : is_joined p (w.0).owner (w.0).b older ≡ true = sym (joined_is (by_position (line ∷ older)) p (w.0).owner (w.0).b (below_all p.shape.n (w.0).b k.few (w.0).below) older (past_whole (line ∷ older)).1) ∙ w.1 in
-    listed p (line ∷ older) a.0 w.0 (joined_alive p (w.0).owner (w.0).b older k.follows.1 live)
+    listed p (line ∷ older) a.0 w.0 (joined_alive false p (w.0).owner (w.0).b older k.follows.1 live)
 
 still_at : (p : Plan) (line : Line) (older : List Line) → IsStillLine p line older → IsStill (Some line)
 still_at p (Ask a b (Lock Work area) (Held owner) took) older h = tt

@@ -22,7 +22,7 @@ pub record IsPresumed (p : Plan) (log : List Line) : Type 0 where
   pub clients : length p.clients ≤ 16
   pub healers : length p.healers ≤ 3
   pub short : length log ≤ 4000000
-  pub follows : Follows p log
+  pub follows : Follows false p log
   pub honest : Honest p log
   pub lawful : IsLawfulExactly p log
   pub rising : AreRising p log
