@@ -4,6 +4,11 @@ mod EventKeeps
 mod FreshReads
 mod LineKeeps
 mod LogLemmas
+mod TaskLemmas
+mod TaskSteps
+mod TaskTurn
+pub mod TaskDone
+mod TaskBegins
 mod Opening
 mod ReadyLemmas
 mod Runs

@@ -25,7 +25,7 @@ use Rattle.afr_volume.specs.Laws.{BeginLaws, Laws, RoundLaws}
 use Rattle.afr_volume.specs.Pacing.{ArePaced}
 use Rattle.afr_volume.specs.State.{State}
 use Rattle.afr_log.specs.Log.{waits_for}
-use Rattle.afr_volume.specs.Turning.{Turns, AddsLine, Readies, ReadiedAt, StepsAt, due_at, if_due}
+use Rattle.afr_volume.specs.Turning.{Turns, AddsLine, Readies, ReadiedAt, StepsAt, due_at, if_due, IsTaskLine}
 use Rattle.afr_volume.specs.declared.actor.Actor.{Actor}
 use Rattle.afr_volume.specs.declared.turned.Turned.{Turned}
 use Rattle.afr_volume.specs.declared.turned.Turned.TheVariants.{Moved, Waits}
@@ -36,6 +36,9 @@ use Rattle.afr_volume.proofs.LineKeeps.{LineKeeps, Wrote, wrote_own}
 use Rattle.afr_volume.proofs.ReadyLemmas.{script_is}
 use Rattle.afr_volume.proofs.TurnKeeps.{before_turn, can_step, got_same, kept_ready, kept_turn, line_keeps}
 use Rattle.std.proofs.Common.{inl, inr}
+use Rattle.afr_base.specs.declared.ids.Gfid.{Gfid}
+use Rattle.afr_base.specs.declared.ids.What.{What}
+use Rattle.afr_volume.specs.Tasks.{is_done_in}
 
 -- ---- the premises
 or_false : (x y : Bool) → (x || y) ≡ false → (x ≡ false) × (y ≡ false)
@@ -190,19 +193,26 @@ module _ {crawl : Bool} (p : Plan) (a : ℕ) (log : List Line) (servers : List S
       ap (λ (n : ℕ). nat_le count n) acts.ended_is ∙ sym (rw (lives, works) refl)
 
 -- what a turn answers by the line that it added
-pub turned : (p : Plan) (a : ActorId) (items added : List Line) (was is picked_before picked_now : List (Option ℕ)) (line : Line) (waits : Option ActorId) (answer : Turned) → is_of a.0 line ≡ true → reverse added ≡ line ∷ reverse items → waits_for line ≡ waits
-    → ((i : ℕ) → (17 + i ≡ a.0 → ⊥) → slice_get is i ≡ slice_get was i) → ((i : ℕ) → (1 + i ≡ a.0 → ⊥) → slice_get picked_now i ≡ slice_get picked_before i) → ((owner : ActorId) → waits ≡ Some owner → answer ≡ Waits owner) → (waits ≡ None → answer ≡ Moved)
-    → Turns a (record { plan = p; log = reverse items; sources = was; picked = picked_before }) answer (record { plan = p; log = reverse added; sources = is; picked = picked_now })
-turned p a items added was is picked_before picked_now line waits answer own grown w others others_picked some none = go waits w some none
+pub turned : (a : ActorId) (old new : State) (line : Line) (waits : Option ActorId) (answer : Turned) → is_of a.0 line ≡ true → new.plan ≡ old.plan → new.log ≡ line ∷ old.log → waits_for line ≡ waits
+    → ((i : ℕ) → (17 + i ≡ a.0 → ⊥) → slice_get new.sources i ≡ slice_get old.sources i) → ((i : ℕ) → (1 + i ≡ a.0 → ⊥) → slice_get new.picked i ≡ slice_get old.picked i) → new.crawl ≡ old.crawl → is_done_in a.0 old ≡ false
+    → ((i : ℕ) → (18 + i ≡ a.0 → ⊥) → slice_get new.tasks i ≡ slice_get old.tasks i) → ((item : Gfid × What) → 18 ≤ a.0 → slice_get old.tasks (a.0 - 18) ≡ Some (Some item) → IsTaskLine a.0 item line old.log new.tasks)
+    → ((owner : ActorId) → waits ≡ Some owner → answer ≡ Waits owner) → (waits ≡ None → answer ≡ Moved) → Turns a old answer new
+turned a old new line waits answer own plan grown w others others_picked crawl left others_tasks own_task some none = go waits w some none
   where
-    old : State
-    old = record { plan = p; log = reverse items; sources = was; picked = picked_before }
-
-    new : State
-    new = record { plan = p; log = reverse added; sources = is; picked = picked_now }
-
     adds : (waits : Option ActorId) → waits_for line ≡ waits → AddsLine a old waits new
-    adds waits w = record { line = line; own = own; waiting = w; plan = refl; added = grown; others = others; others_picked = others_picked }
+    adds waits w = record {
+      line = line;
+      own = own;
+      waiting = w;
+      plan = plan;
+      added = grown;
+      others = others;
+      others_picked = others_picked;
+      crawl = crawl;
+      left = left;
+      others_tasks = others_tasks;
+      own_task = own_task;
+    }
 
     go : (waits : Option ActorId) → waits_for line ≡ waits → ((owner : ActorId) → waits ≡ Some owner → answer ≡ Waits owner) → (waits ≡ None → answer ≡ Moved) → Turns a old answer new
     go (Some owner) w some none = subst (λ (t : Turned). Turns a old t new) (sym (some owner refl)) (adds (Some owner) w)

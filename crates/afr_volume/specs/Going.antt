@@ -10,9 +10,10 @@ use Rattle.afr_model.specs.Ordered.{Writes, actors_of, passes}
 use Rattle.afr_volume.specs.declared.turned.Turned.{Turned}
 use Rattle.afr_volume.specs.declared.turned.Turned.TheVariants.{Full}
 
--- the plan stays, the log grows or all is as it was, and who is done stays done
+-- the plan stays and the way its healers go, the log grows or all is as it was, and who is done stays done
 pub record Goes (old new : State) : Type 0 where
   pub plan : new.plan ≡ old.plan
+  pub crawl : new.crawl ≡ old.crawl
   pub grows : length old.log ≤ length new.log
   pub same : length new.log ≤ length old.log → new ≡ old
   pub stays : (a : ℕ) → is_done old.plan a old.log ≡ true → is_done new.plan a new.log ≡ true

@@ -1,4 +1,5 @@
 pub mod State
+pub mod Tasks
 pub mod Laws
 pub mod Acting
 pub mod Pacing

@@ -8,13 +8,13 @@ pub returns-then-actor : goal.returns-then-actor
 returns-then-actor c =
     let client : c.args.a.0 ≤ 16 = grind (arith, nat_tests, c.if-a-gt-MOST_CLIENTS.false) in
     rw (← c.self.view_is)
-    (done_if_killed c.self.inside.plan c.args.a.0 (reverse c.self.inside.log.items) c.self.inside.servers c.self.inside.actors.items c.self.inside.made c.self.invariant.kept client (rw (← c.self.view_is) at c.requires.actor) c.index-actor.result.now
-    (found_at _ _ _ (client_there c.self.inside.plan c.args.a.0 c.self.inside.actors.items c.self.invariant.kept.runnable c.self.invariant.kept.same client (rw (← c.self.view_is) at c.requires.actor)) c.index-actor.ensures) c.if-actor.true)
+    (done_if_killed c.self.inside.plan c.args.a.0 (reverse c.self.inside.log.items) c.self.inside.servers c.self.inside.actors.items c.self.inside.made c.self.invariant.whole.kept client (rw (← c.self.view_is) at c.requires.actor) c.index-actor.result.now
+    (found_at _ _ _ (client_there c.self.inside.plan c.args.a.0 c.self.inside.actors.items c.self.invariant.whole.kept.runnable c.self.invariant.whole.kept.same client (rw (← c.self.view_is) at c.requires.actor)) c.index-actor.ensures) c.if-actor.true)
 
 pub returns-else-actor : goal.returns-else-actor
 returns-else-actor c =
     let client : c.args.a.0 ≤ 16 = grind (arith, nat_tests, c.if-a-gt-MOST_CLIENTS.false) in
     rw (← c.self.view_is)
-    (done_by_count c.self.inside.plan c.args.a.0 (reverse c.self.inside.log.items) c.self.inside.servers c.self.inside.actors.items c.self.inside.made c.self.invariant.kept client (rw (← c.self.view_is) at c.requires.actor) c.index-actor.result.now
-    (found_at _ _ _ (client_there c.self.inside.plan c.args.a.0 c.self.inside.actors.items c.self.invariant.kept.runnable c.self.invariant.kept.same client (rw (← c.self.view_is) at c.requires.actor)) c.index-actor.ensures) c.if-actor.false
+    (done_by_count c.self.inside.plan c.args.a.0 (reverse c.self.inside.log.items) c.self.inside.servers c.self.inside.actors.items c.self.inside.made c.self.invariant.whole.kept client (rw (← c.self.view_is) at c.requires.actor) c.index-actor.result.now
+    (found_at _ _ _ (client_there c.self.inside.plan c.args.a.0 c.self.inside.actors.items c.self.invariant.whole.kept.runnable c.self.invariant.whole.kept.same client (rw (← c.self.view_is) at c.requires.actor)) c.index-actor.ensures) c.if-actor.false
     c.item-else-actor.result.now c.item-else-actor.ensures c.len-else-actor.result c.len-else-actor.ensures)

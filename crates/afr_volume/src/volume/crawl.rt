@@ -1,0 +1,47 @@
+//! A crawl: the first healer asks for the indexes of its rounds alone, and the others, the workers, are given tasks.
+ghost use Rattle.std.specs.Prelude.{◌≡◌, ◌-◌, [], None, OnErr, OnOk, Some, false, slice_get, slice_set, true};
+ghost use Rattle.afr_lines.specs.Work.{is_killed};
+ghost use Rattle.afr_model.specs.Crawl.{CanCrawl, IsGiven, IsWorker};
+ghost use Rattle.afr_volume.specs.State.{no_tasks};
+
+use crate::healers::HEALERS_FROM;
+use crate::laws::laws;
+use crate::volume::Volume;
+use afr_base::{ActorId, Gfid, NoMemory, What};
+use afr_healer::begin_task;
+
+impl Volume {
+    /// From here on the healers crawl.
+    pub fn set_crawl(&mut self)
+        requires none { self.old.log ≡ [] }
+        requires healers { CanCrawl self.old.plan }
+        ensures { self.new ≡ record self.old { crawl = true; tasks = no_tasks true } }
+    {
+        // A turn that wanted memory may have left a round that heals, of which no line was written.
+        self.healers[0].round = None;
+        self.crawl = true;
+    }
+
+    /// Whether the healers crawl. It takes no memory.
+    pub fn is_crawl(&self) -> bool
+        ensures { result ≡ self.now.crawl }
+    {
+        self.crawl
+    }
+
+    /// Gives a worker one task, an item that the crawler was given. Its turns are the lines of it.
+    pub fn assign(&mut self, a: ActorId, gfid: Gfid, what: What) -> Result<(), NoMemory>
+        requires crawl { self.old.crawl ≡ true }
+        requires worker { IsWorker a.0 }
+        requires alive { is_killed a.0 self.old.log ≡ false }
+        requires idle { slice_get self.old.tasks (a.0 - 18) ≡ Some None }
+        requires given { IsGiven self.old.plan (gfid, what) self.old.log }
+        ensures ok { OnOk result (self.new ≡ record self.old { tasks = slice_set self.old.tasks (a.0 - 18) (Some (gfid, what)) }) }
+        ensures err { OnErr result (self.new ≡ self.old) }
+    {
+        laws();
+        let healer = &mut self.healers[a.0 as usize - HEALERS_FROM];
+        begin_task(self.alloc, self.plan.shape, gfid, what, healer)?;
+        Ok(())
+    }
+}
