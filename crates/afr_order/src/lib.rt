@@ -1,7 +1,7 @@
 //! Turns of actors in the stated order, and runs that were recorded made again.
 #![tactic(auto)]
 
-ghost use Rattle.std.specs.Prelude.{◌≡◌, IfOk, OnOk, []};
+ghost use Rattle.std.specs.Prelude.{◌≡◌, IfOk, OnOk, [], false};
 ghost use Rattle.afr_model.specs.Complete.{IsComplete};
 ghost use Rattle.afr_model.specs.Ordered.{IsOrdered, ordered_turns};
 ghost use Rattle.afr_order.specs.Ending.{EndsInBound};
@@ -22,7 +22,7 @@ use afr_volume::Volume;
 pub use remaking::{Replayed, image_of, replay, replay_steps, with_turns};
 
 /// Runs the plan that the volume was set up with, until every actor is done or the log is full: first its orders, then
-/// passes over all actors. Heals ask one of the rules for their sources, and clients the other for the copies that they
+/// passes over all actors. Its healers go their own rounds. Heals ask one of the rules for their sources, and clients the other for the copies that they
 /// read. Where the plan has as many turns as its bound, the log isn't full before every actor is done.
 pub fn drive<F: Fn(&[Candidate]) -> usize, G: Fn(&[Candidate]) -> usize>(
     volume: &mut Volume,
@@ -30,8 +30,10 @@ pub fn drive<F: Fn(&[Candidate]) -> usize, G: Fn(&[Candidate]) -> usize>(
 ) -> Result<(), NoMemory>
     requires rule { IsRule F.Fn rules.now.heal }
     requires read_rule { IsRule G.Fn rules.now.read }
+    requires plain { volume.old.crawl ≡ false }
     requires fresh { volume.old.log ≡ [] }
     ensures plan { volume.new.plan ≡ volume.old.plan }
+    ensures plain { volume.new.crawl ≡ false }
     ensures ok { OnOk result (IsComplete volume.new.plan volume.new.log) }
     ensures ordered { IsOrdered volume.new.plan volume.new.log }
     ensures ends { OnOk result (EndsInBound volume.new.plan volume.new.log) }
@@ -54,6 +56,7 @@ pub fn take_orders<F: Fn(&[Candidate]) -> usize, G: Fn(&[Candidate]) -> usize>(
 ) -> Result<bool, NoMemory>
     requires rule { IsRule F.Fn rules.now.heal }
     requires read_rule { IsRule G.Fn rules.now.read }
+    requires plain { volume.old.crawl ≡ false }
     ensures goes { Goes volume.old volume.new }
     ensures front { TakesFront volume.old.plan (ordered_turns volume.old.plan.go) volume.old.log volume.new.log }
     ensures ok { IfOk result (λ on. Ends (ordered_turns volume.old.plan.go) volume.old on volume.new) }
@@ -74,6 +77,7 @@ pub fn take_passes<F: Fn(&[Candidate]) -> usize, G: Fn(&[Candidate]) -> usize>(
 ) -> Result<(), NoMemory>
     requires rule { IsRule F.Fn rules.now.heal }
     requires read_rule { IsRule G.Fn rules.now.read }
+    requires plain { volume.old.crawl ≡ false }
     ensures goes { Goes volume.old volume.new }
     ensures onto { Extends volume.old.log volume.new.log }
     ensures front { TakesPasses volume.old.plan volume.old.log volume.new.log }
@@ -93,8 +97,10 @@ fn take_all<F: Fn(&[Candidate]) -> usize, G: Fn(&[Candidate]) -> usize>(
 ) -> Result<(), NoMemory>
     requires rule { IsRule F.Fn rules.now.heal }
     requires read_rule { IsRule G.Fn rules.now.read }
+    requires plain { volume.old.crawl ≡ false }
     requires fresh { volume.old.log ≡ [] }
     ensures plan { volume.new.plan ≡ volume.old.plan }
+    ensures plain { volume.new.crawl ≡ false }
     ensures ok { OnOk result (IsComplete volume.new.plan volume.new.log) }
     ensures ordered { IsOrdered volume.new.plan volume.new.log }
     ensures chosen { KeepsChosen F.Fn G.Fn rules.now volume.old volume.new }

@@ -1,5 +1,5 @@
 //! The orders of the plan, and passes over all actors.
-ghost use Rattle.std.specs.Prelude.{◌≡◌, ◌≤◌, ◌<◌, ◌+◌, ◌^◌, ℕ, true, Ok, OnOk, IfOk, length};
+ghost use Rattle.std.specs.Prelude.{◌≡◌, ◌≤◌, ◌<◌, ◌+◌, ◌^◌, ℕ, true, false, Ok, OnOk, IfOk, length};
 ghost use Rattle.std.specs.List.{range_with_len};
 ghost use Rattle.afr_model.specs.Actors.{IsActor, is_done};
 ghost use Rattle.afr_model.specs.Complete.{IsComplete};
@@ -138,6 +138,7 @@ pub(crate) fn all_passes<F: Fn(&[Candidate]) -> usize, G: Fn(&[Candidate]) -> us
 ) -> Result<(), NoMemory>
     requires rule { IsRule F.Fn rules.now.heal }
     requires read_rule { IsRule G.Fn rules.now.read }
+    requires plain { volume.old.crawl ≡ false }
     ensures goes { Goes volume.old volume.new }
     ensures onto { Extends volume.old.log volume.new.log }
     ensures front { TakesPasses volume.old.plan volume.old.log volume.new.log }

@@ -33,4 +33,5 @@ mod PaceRounds
 mod PaceEvents
 pub mod GoingLemmas
 pub mod DoneLemmas
+pub mod PlainLemmas
 pub mod PresumedLemmas
