@@ -22,7 +22,7 @@ use Rattle.afr_law_picks.proofs.Sources.HealerTurn.{healer_turn}
 use Rattle.afr_law_picks.specs.Sources.Chosen.{AreChosen}
 use Rattle.afr_law_picks.specs.Sources.Laws.{LineKeepsSource}
 use Rattle.afr_law_picks.specs.Sources.Sources.{picks_of, sources_of}
-use Rattle.afr_volume.specs.Keeping.{AreCrawling, AreHealers, CanRun, IsSound, IsVolume, IsWhole}
+use Rattle.afr_volume.specs.Keeping.{AreCrawling, AreHealers, CanRun, IsVolume, IsWhole}
 use Rattle.afr_volume.specs.Laws.{PaceLaws, RoundLaws}
 use Rattle.afr_volume.specs.Pacing.{ArePaced}
 use Rattle.afr_volume.specs.State.{State}
@@ -50,11 +50,8 @@ got_set [] i y z small e = absurd (omega (arith, small))
 got_set (x ∷ l) zero y z small e = sym (cc e)
 got_set (x ∷ l) (suc i) y z small e = got_set l i y z (omega (arith, small)) e
 
-module _ {crawl : Bool} (laws : RoundLaws) (paces : PaceLaws) (p : Plan) (a : ActorId) (items : List Line) (actors : List Actor) (healers readied : List Healer) (servers : List Serving) (made : ℕ) (v : IsSound crawl p (reverse items) servers actors healers made) (healer : 17 ≤ a.0) (actor : IsActor p a.0)
+module _ {crawl : Bool} (laws : RoundLaws) (paces : PaceLaws) (p : Plan) (a : ActorId) (items : List Line) (actors : List Actor) (healers readied : List Healer) (servers : List Serving) (made : ℕ) (w : IsWhole crawl p (reverse items) servers actors healers made) (healer : 17 ≤ a.0) (actor : IsActor p a.0)
     (room : length items < p.turns) (r : ReadiedHealerAt crawl p a.0 healers readied) where
-  w : IsWhole crawl p (reverse items) servers actors healers made
-  w = v.whole
-
   pub known : a.0 < 20
   known = (healer_is p a.0 w.kept.runnable (above a.0 healer) actor).2
 
@@ -62,20 +59,18 @@ module _ {crawl : Bool} (laws : RoundLaws) (paces : PaceLaws) (p : Plan) (a : Ac
   some = let most = (healer_is p a.0 w.kept.runnable (above a.0 healer) actor).1 in w.kept.runnable.healed (omega (arith, most, healer))
 
   pub can : crawl ≡ true → CanCrawl p
-  can e = (v.crawling e).can
+  can e = (w.crawling e).can
 
   few : length (reverse items) < p.turns
   few = omega (arith, length-reverse items, room)
 
-  ready_whole : IsWhole crawl p (reverse items) servers actors readied made
+  pub ready_whole : IsWhole crawl p (reverse items) servers actors readied made
   ready_whole = record {
     kept = w.kept;
     healing = kept_healer laws p a.0 (reverse items) servers healers readied healer known w.kept.runnable.few (w.kept.runnable.rounds a.0) can w.healing r;
     pacing = ready_rounds paces p a.0 (reverse items) servers actors healers readied w.healing r w.pacing;
+    crawling = readied_crawls crawl p a.0 (reverse items) healers readied healer known r w.crawling;
   }
-
-  pub ready_sound : IsSound crawl p (reverse items) servers actors readied made
-  ready_sound = record { whole = ready_whole; crawling = readied_crawls crawl p a.0 (reverse items) healers readied healer known r v.crawling }
 
   mine : (x : Healer) → slice_get readied (a.0 - 17) ≡ Some x → IsHealer crawl p (reverse items) a.0 servers x
   mine x is = (let e : 17 + (a.0 - 17) ≡ a.0 = omega (arith, healer) in subst (λ (c : ℕ). IsHealer crawl p (reverse items) c servers x) e (ready_whole.healing.each (a.0 - 17) x is))
@@ -100,7 +95,7 @@ module _ {crawl : Bool} (laws : RoundLaws) (paces : PaceLaws) (p : Plan) (a : Ac
 
   -- ---- the turn
   pub record Healed (added : List Line) (new_servers : List Serving) (new_healers : List Healer) (line : Line) : Type 0 where
-    pub sound : IsSound crawl p (reverse added) new_servers actors new_healers made
+    pub whole : IsWhole crawl p (reverse added) new_servers actors new_healers made
     pub own : is_of a.0 line ≡ true
     pub log : reverse added ≡ line ∷ reverse items
     pub tasks : KeepsTasks crawl p a.0 (reverse items) healers new_healers line
@@ -108,7 +103,7 @@ module _ {crawl : Bool} (laws : RoundLaws) (paces : PaceLaws) (p : Plan) (a : Ac
   pub healed : (at : ℕ) (added : List Line) (new_healers : List Healer) (new_servers : List Serving) (line : Line) → is_killed a.0 (reverse items) ≡ false → due_at p (reverse items) ≡ None → at ≡ length items
       → StepsHealerAt IsAnswered a at readied new_healers servers new_servers line → added ≡ items ++ line ∷ [] → Healed added new_servers new_healers line
   healed at added new_healers new_servers line alive none position s grown = record {
-    sound = record { whole = rw (grown, reverse_push items line, s.set_is) kept; crawling = rw (grown, reverse_push items line) tasks.crawling };
+    whole = rw (grown, reverse_push items line, s.set_is) kept;
     own = wrote_own a line wrote;
     log = rw grown (reverse_push items line);
     tasks = tasks;
@@ -120,6 +115,14 @@ module _ {crawl : Bool} (laws : RoundLaws) (paces : PaceLaws) (p : Plan) (a : Ac
       wrote : Wrote a line
       wrote = round_wrote laws p a (reverse items) servers new_servers actors readied made line s.before s.after ready_whole healer known some s.was (made_so s.before s.was) few stepped
 
+      same : StepsHealerAt IsAnswered a (length (reverse items)) readied new_healers servers new_servers line
+      same = subst (λ (at : ℕ). StepsHealerAt IsAnswered a at readied new_healers servers new_servers line) (position ∙ sym (length-reverse items)) s
+
+      tasks : KeepsTasks crawl p a.0 (reverse items) healers new_healers line
+      tasks = keeps_tasks crawl p a (reverse items) servers new_servers healers readied new_healers line healer known w.kept.runnable.clients w.crawling r same (mine same.before same.was)
+          (round_keeps laws p a (reverse items) servers new_servers actors readied made line same.before same.after ready_whole healer known some same.was (made_so same.before same.was) few same.steps)
+          (λ c apart. other_work a c line (reverse items) wrote (differ a.0 c apart))
+
       volume : IsVolume crawl p (line ∷ reverse items) new_servers actors made
       volume = kept_line laws p a (reverse items) servers new_servers actors readied made line s.before s.after ready_whole healer known some s.was (made_so s.before s.was) few stepped actor alive
           (none_due p (reverse items) few none)
@@ -130,15 +133,7 @@ module _ {crawl : Bool} (laws : RoundLaws) (paces : PaceLaws) (p : Plan) (a : Ac
 
       kept : IsWhole crawl p (line ∷ reverse items) new_servers actors (set readied (a.0 - 17) s.after) made
       kept = kept_round laws p a (reverse items) servers new_servers actors readied made line s.before s.after ready_whole healer known some s.was (made_so s.before s.was) few stepped actor alive
-          (none_due p (reverse items) few none) paced
-
-      same : StepsHealerAt IsAnswered a (length (reverse items)) readied new_healers servers new_servers line
-      same = subst (λ (at : ℕ). StepsHealerAt IsAnswered a at readied new_healers servers new_servers line) (position ∙ sym (length-reverse items)) s
-
-      tasks : KeepsTasks crawl p a.0 (reverse items) healers new_healers line
-      tasks = keeps_tasks crawl p a (reverse items) servers new_servers healers readied new_healers line healer known w.kept.runnable.clients v.crawling r same (mine same.before same.was)
-          (round_keeps laws p a (reverse items) servers new_servers actors readied made line same.before same.after ready_whole healer known some same.was (made_so same.before same.was) few same.steps)
-          (λ c apart. other_work a c line (reverse items) wrote (differ a.0 c apart))
+          (none_due p (reverse items) few none) paced (rw s.set_is at tasks.crawling)
 
   -- where the turn asks a rule, what that picked is kept
   pub sources_kept : {F : Type 0} (calls : Calls F) (choose : F) → LineKeepsSource calls choose → crawl ≡ false → (at : ℕ) (added : List Line) (new_healers : List Healer) (new_servers : List Serving) (line : Line) → at ≡ length items
@@ -176,18 +171,18 @@ some_healer (x ∷ healers) zero small = (x, refl)
 some_healer (x ∷ healers) (suc i) small = some_healer healers i (omega (arith, small))
 
 -- ---- who is done
-module _ {crawl : Bool} (p : Plan) (log : List Line) (servers : List Serving) (actors : List Actor) (healers : List Healer) (made : ℕ) (sources picked : List (Option ℕ)) (v : IsSound crawl p log servers actors healers made) (a : ℕ) (low : 17 ≤ a) where
+module _ {crawl : Bool} (p : Plan) (log : List Line) (servers : List Serving) (actors : List Actor) (healers : List Healer) (made : ℕ) (sources picked : List (Option ℕ)) (v : IsWhole crawl p log servers actors healers made) (a : ℕ) (low : 17 ≤ a) where
   abbrev now : State
   now = record { plan = p; log = log; sources = sources; picked = picked; crawl = crawl; tasks = tasks_of crawl healers }
 
   stands : (x : Healer) → slice_get healers (a - 17) ≡ Some x → IsHealer crawl p log a servers x
-  stands x is = let e : 17 + (a - 17) ≡ a = omega (arith, low) in subst (λ (c : ℕ). IsHealer crawl p log c servers x) e (v.whole.healing.each (a - 17) x is)
+  stands x is = let e : 17 + (a - 17) ≡ a = omega (arith, low) in subst (λ (c : ℕ). IsHealer crawl p log c servers x) e (v.healing.each (a - 17) x is)
 
   pub healer_left : is_done_in a now ≡ false → (x : Healer) → slice_get healers (a - 17) ≡ Some x → x.round ≡ None → x.ended < length (rounds_of p a)
   healer_left left x is none = left_is crawl p log sources picked healers v.crawling a low x is (stands x is).ended_is left none
 
   pub healer_there : IsActor p a → (x : Healer) × (slice_get healers (a - 17) ≡ Some x)
-  healer_there actor = let most = (healer_is p a v.whole.kept.runnable (above a low) actor).1 in some_healer healers (a - 17) (omega (arith, low, most, v.whole.healing.same))
+  healer_there actor = let most = (healer_is p a v.kept.runnable (above a low) actor).1 in some_healer healers (a - 17) (omega (arith, low, most, v.healing.same))
 
   pub healer_done : IsActor p a → (result : Bool)
       → ((x : Healer) → slice_get healers (a - 17) ≡ Some x → result ≡ (x.killed || (not (crawl && (nat_lt 17 a && is_some x.round)) && nat_le (length (rounds_of p a)) x.ended))) → result ≡ is_done_in a now
@@ -222,8 +217,8 @@ rested {crawl = crawl} laws p log servers sources picked healers run k crawling 
     by (Some m) some carries = laws.ends crawl p a log servers x.0 (goes_rounds crawl p log sources picked healers crawling a low x.0 x.1 done alive m some) few mine
 
 -- nor has a client
-pub all_rest : {crawl : Bool} (laws : RoundLaws) (p : Plan) (log : List Line) (servers : List Serving) (actors : List Actor) (healers : List Healer) (made : ℕ) (sources picked : List (Option ℕ)) → IsSound crawl p log servers actors healers made → (a : ℕ) → IsActor p a
+pub all_rest : {crawl : Bool} (laws : RoundLaws) (p : Plan) (log : List Line) (servers : List Serving) (actors : List Actor) (healers : List Healer) (made : ℕ) (sources picked : List (Option ℕ)) → IsWhole crawl p log servers actors healers made → (a : ℕ) → IsActor p a
     → is_done_in a (record { plan = p; log = log; sources = sources; picked = picked; crawl = crawl; tasks = tasks_of crawl healers }) ≡ true → is_killed a log ≡ false → work a log ≡ []
 all_rest {crawl = crawl} laws p log servers actors healers made sources picked v a (Client one most) done alive =
-    settled p log servers actors made v.whole.kept a (omega (arith, most, v.whole.kept.runnable.clients)) (Client one most) (done_by_plan a (record { plan = p; log = log; sources = sources; picked = picked; crawl = crawl; tasks = tasks_of crawl healers }) done) alive
-all_rest laws p log servers actors healers made sources picked v a (ByHealer low most) done alive = rested laws p log servers sources picked healers v.whole.kept.runnable v.whole.healing v.crawling a low (ByHealer low most) done alive
+    settled p log servers actors made v.kept a (omega (arith, most, v.kept.runnable.clients)) (Client one most) (done_by_plan a (record { plan = p; log = log; sources = sources; picked = picked; crawl = crawl; tasks = tasks_of crawl healers }) done) alive
+all_rest laws p log servers actors healers made sources picked v a (ByHealer low most) done alive = rested laws p log servers sources picked healers v.kept.runnable v.healing v.crawling a low (ByHealer low most) done alive

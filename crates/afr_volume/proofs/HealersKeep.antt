@@ -25,7 +25,7 @@ use Rattle.afr_server.specs.Serving.{Serving}
 use Rattle.afr_servers.specs.Log.{AreFound}
 use Rattle.afr_servers.specs.declared.epochs.Epochs.{Epochs}
 use Rattle.afr_law_next.specs.Turn.{Stood}
-use Rattle.afr_volume.specs.Keeping.{AreHealers, IsActing, IsVolume, IsWhole}
+use Rattle.afr_volume.specs.Keeping.{AreCrawling, AreHealers, IsActing, IsVolume, IsWhole}
 use Rattle.afr_volume.specs.Laws.{EventLaws, RoundLaws}
 use Rattle.afr_volume.specs.Pacing.{ArePaced}
 use Rattle.afr_volume.specs.Turning.{KillsHealersIn, ReadiedHealerAt}
@@ -167,14 +167,15 @@ module _ {crawl : Bool} (laws : RoundLaws) (p : Plan) (a : ActorId) (log : List 
     names = (names_no p a line log round_keeps.written, w.kept.names);
   }
 
-  pub kept_round : IsActor p a.0 → is_killed a.0 log ≡ false → NoneDue p log → ArePaced p (line ∷ log) actors (set healers (a.0 - 17) y) → IsWhole crawl p (line ∷ log) new actors (set healers (a.0 - 17) y) made
-  kept_round actor alive none paced = record {
+  pub kept_round : IsActor p a.0 → is_killed a.0 log ≡ false → NoneDue p log → ArePaced p (line ∷ log) actors (set healers (a.0 - 17) y) → (crawl ≡ true → AreCrawling p (line ∷ log) (set healers (a.0 - 17) y)) → IsWhole crawl p (line ∷ log) new actors (set healers (a.0 - 17) y) made
+  kept_round actor alive none paced crawling = record {
     kept = kept_line actor alive none;
     healing = record {
       same = length-set healers (a.0 - 17) y ∙ w.healing.same;
       each = λ i z h. each i z h (eqb_tells a.0 (17 + i));
     };
     pacing = paced;
+    crawling = crawling;
   }
     where
       each : (i : ℕ) (z : Healer) → slice_get (set healers (a.0 - 17) y) i ≡ Some z → ((a.0 == 17 + i) ≡ true) × (a.0 ≡ 17 + i) ⊎ ((a.0 == 17 + i) ≡ false) × (a.0 ≢ 17 + i) → IsHealer crawl p (line ∷ log) (17 + i) new z

@@ -22,7 +22,7 @@ use Rattle.afr_model.specs.Crawl.{AreOfItem, CanCrawl, IsGiven, IsWorker}
 use Rattle.afr_plan.specs.declared.plan.Plan.{Plan}
 use Rattle.afr_server.specs.Serving.{Serving}
 use Rattle.afr_servers.specs.declared.epochs.Epochs.{Epochs}
-use Rattle.afr_volume.specs.Keeping.{AreCrawling, IsAtIts, IsSound, IsVolume}
+use Rattle.afr_volume.specs.Keeping.{AreCrawling, IsAtIts, IsVolume, IsWhole}
 use Rattle.afr_volume.specs.Laws.{RoundLaws}
 use Rattle.afr_volume.specs.State.{State, no_tasks}
 use Rattle.afr_volume.specs.Tasks.{item_in, of_workers, task_at, task_of, tasks_of}
@@ -70,7 +70,7 @@ two_workers (x ∷ y ∷ []) many k = absurd (omega (arith, many))
 two_workers (x ∷ y ∷ z ∷ []) many k =
     let second : task_of y ≡ None = ap task_at (k 1 y refl (omega arith)) in
     let third : task_of z ≡ None = ap task_at (k 2 z refl (omega arith)) in
-    rw (second, third) refl
+    λ i. second i ∷ third i ∷ []
 two_workers (x ∷ y ∷ z ∷ w ∷ l) many k = absurd (omega (arith, many))
 
 workers_rest : {crawl : Bool} (p : Plan) (servers : List Serving) (healers : List Healer) → CanCrawl p → length healers ≡ length p.healers → ((i : ℕ) (x : Healer) → slice_get healers i ≡ Some x → IsHealer crawl p [] (17 + i) servers x) → (i : ℕ) (x : Healer) → slice_get healers i ≡ Some x → 1 ≤ i → x.round ≡ None
@@ -83,50 +83,52 @@ pub first_tasks : (crawl : Bool) (p : Plan) (log : List Line) (servers : List Se
 first_tasks false p log servers healers same each can none = refl
 first_tasks true p log servers healers same each can none = two_workers healers (same ∙ (can refl).healers) (workers_rest p servers healers (can refl) same (λ i x is. rw none at (each i x is)))
 
+positive : (i : ℕ) → (0 ≡ i → ⊥) → 1 ≤ i
+positive zero apart = absurd (apart refl)
+positive (suc i) apart = omega arith
+
 -- ---- the healers crawl from here on
-module _ {crawl : Bool} (p : Plan) (servers : List Serving) (actors : List Actor) (healers : List Healer) (made : ℕ) (can : CanCrawl p) (v : IsSound crawl p [] servers actors healers made) (x : Healer) (is : slice_get healers 0 ≡ Some x) where
+module _ {crawl : Bool} (p : Plan) (servers : List Serving) (actors : List Actor) (healers : List Healer) (made : ℕ) (can : CanCrawl p) (v : IsWhole crawl p [] servers actors healers made) (x : Healer) (is : slice_get healers 0 ≡ Some x) where
   abbrev first : Healer
   first = record x { round = None }
 
   kept : IsVolume true p [] servers actors made
   kept = record {
-    runnable = v.whole.kept.runnable;
-    room = v.whole.kept.room;
-    served = v.whole.kept.served;
-    same = v.whole.kept.same;
-    each = v.whole.kept.each;
-    made_is = v.whole.kept.made_is;
+    runnable = v.kept.runnable;
+    room = v.kept.room;
+    served = v.kept.served;
+    same = v.kept.same;
+    each = v.kept.each;
+    made_is = v.kept.made_is;
     follows = tt;
-    honest = v.whole.kept.honest;
-    lawful = v.whole.kept.lawful;
-    replied = v.whole.kept.replied;
-    blamed = v.whole.kept.blamed;
-    names = v.whole.kept.names;
+    honest = v.kept.honest;
+    lawful = v.kept.lawful;
+    replied = v.kept.replied;
+    blamed = v.kept.blamed;
+    names = v.kept.names;
   }
 
   resting : (i : ℕ) (z : Healer) → slice_get healers i ≡ Some z → 1 ≤ i → z.round ≡ None
-  resting = workers_rest p servers healers can v.whole.healing.same v.whole.healing.each
+  resting = workers_rest p servers healers can v.healing.same v.healing.each
 
   each : (i : ℕ) (z : Healer) → slice_get (slice_set healers 0 first) i ≡ Some z → IsHealer true p [] (17 + i) servers z
-  each = set_each (λ (i : ℕ) (z : Healer). IsHealer true p [] (17 + i) servers z) healers 0 first others (rests_first p 17 servers x (v.whole.healing.each 0 x is))
+  each = set_each (λ (i : ℕ) (z : Healer). IsHealer true p [] (17 + i) servers z) healers 0 first others (rests_first p 17 servers x (v.healing.each 0 x is))
     where
       others : (i : ℕ) (z : Healer) → (0 ≡ i → ⊥) → slice_get healers i ≡ Some z → IsHealer true p [] (17 + i) servers z
       others i z apart h =
-          let none : z.round ≡ None = resting i z h (omega (arith, apart)) in
+          let none : z.round ≡ None = resting i z h (positive i apart) in
           let same : record z { round = None } ≡ z = ap (λ (round : Option Rounding). record z { round = round }) (sym none) in
-          subst (λ (y : Healer). IsHealer true p [] (17 + i) servers y) same (rests_first p (17 + i) servers z (v.whole.healing.each i z h))
+          subst (λ (y : Healer). IsHealer true p [] (17 + i) servers y) same (rests_first p (17 + i) servers z (v.healing.each i z h))
 
-  pub crawl_begins : IsSound true p [] servers actors (slice_set healers 0 first) made
+  pub crawl_begins : IsWhole true p [] servers actors (slice_set healers 0 first) made
   crawl_begins = record {
-    whole = record {
-      kept = kept;
-      healing = record { same = length-set healers 0 first ∙ v.whole.healing.same; each = each };
-      pacing = record {
-        clients = v.whole.pacing.clients;
-        rounds = set_each (λ (i : ℕ) (z : Healer). IsPacedRound p (17 + i) [] z.round) healers 0 first (λ i z apart h. v.whole.pacing.rounds i z h) (record { within = λ cost e. omega arith; rooted = tt });
-        rising = v.whole.pacing.rising;
-        within = v.whole.pacing.within;
-      };
+    kept = kept;
+    healing = record { same = length-set healers 0 first ∙ v.healing.same; each = each };
+    pacing = record {
+      clients = v.pacing.clients;
+      rounds = set_each (λ (i : ℕ) (z : Healer). IsPacedRound p (17 + i) [] z.round) healers 0 first (λ i z apart h. v.pacing.rounds i z h) (record { within = λ cost e. omega arith; rooted = tt });
+      rising = v.pacing.rising;
+      within = v.pacing.within;
     };
     crawling = λ e. record {
       can = can;
@@ -137,14 +139,14 @@ module _ {crawl : Bool} (p : Plan) (servers : List Serving) (actors : List Actor
   -- no source is chosen, before and after
   pub crawl_sources : sources_of (slice_set healers 0 first) ≡ sources_of healers
   crawl_sources =
-      all_rest_first p [] servers (slice_set healers 0 first) (length-set healers 0 first ∙ v.whole.healing.same) each refl
-      ∙ sym (all_rest_first p [] servers healers v.whole.healing.same v.whole.healing.each refl)
+      all_rest_first p [] servers (slice_set healers 0 first) (length-set healers 0 first ∙ v.healing.same) each refl
+      ∙ sym (all_rest_first p [] servers healers v.healing.same v.healing.each refl)
 
   pub crawl_tasks : of_workers (slice_set healers 0 first) ≡ None ∷ None ∷ []
-  crawl_tasks = first_tasks true p [] servers (slice_set healers 0 first) (length-set healers 0 first ∙ v.whole.healing.same) each (λ e. can) refl
+  crawl_tasks = first_tasks true p [] servers (slice_set healers 0 first) (length-set healers 0 first ∙ v.healing.same) each (λ e. can) refl
 
 -- ---- a worker is given a task
-module _ (laws : RoundLaws) (p : Plan) (a : ℕ) (log : List Line) (servers : List Serving) (actors : List Actor) (healers : List Healer) (made : ℕ) (item : Gfid × What) (x : Healer) (v : IsSound true p log servers actors healers made) (worker : IsWorker a)
+module _ (laws : RoundLaws) (p : Plan) (a : ℕ) (log : List Line) (servers : List Serving) (actors : List Actor) (healers : List Healer) (made : ℕ) (item : Gfid × What) (x : Healer) (v : IsWhole true p log servers actors healers made) (worker : IsWorker a)
     (idle : slice_get (of_workers healers) (a - 18) ≡ Some None) (given : IsGiven p item log) (is : slice_get healers (a - 17) ≡ Some x) where
   abbrev after : Healer
   after = record x { round = Some (task_from p.shape item) }
@@ -162,7 +164,7 @@ module _ (laws : RoundLaws) (p : Plan) (a : ℕ) (log : List Line) (servers : Li
   place = let l = worker.0 in omega (arith, l)
 
   mine : IsHealer true p log a servers x
-  mine = subst (λ (c : ℕ). IsHealer true p log c servers x) again (v.whole.healing.each (a - 17) x is)
+  mine = subst (λ (c : ℕ). IsHealer true p log c servers x) again (v.healing.each (a - 17) x is)
 
   untasked : task_of x ≡ None
   untasked =
@@ -181,7 +183,7 @@ module _ (laws : RoundLaws) (p : Plan) (a : ℕ) (log : List Line) (servers : Li
   rests = subst (CarriesIts true p a log x.visit.met x.visit.epochs servers) none mine.carries
 
   some : 0 < p.shape.n
-  some = let many = crawling.can.healers in v.whole.kept.runnable.healed (omega (arith, many))
+  some = let many = crawling.can.healers in v.kept.runnable.healed (omega (arith, many))
 
   paced : IsPacedRound p a log (Some (task_from p.shape item))
   paced = record {
@@ -192,22 +194,20 @@ module _ (laws : RoundLaws) (p : Plan) (a : ℕ) (log : List Line) (servers : Li
     rooted = λ lock held area. absurd (cc held);
   }
 
-  pub task_begins : IsSound true p log servers actors (slice_set healers (a - 17) after) made
+  pub task_begins : IsWhole true p log servers actors (slice_set healers (a - 17) after) made
   task_begins = record {
-    whole = record {
-      kept = v.whole.kept;
-      healing = record {
-        same = length-set healers (a - 17) after ∙ v.whole.healing.same;
-        each = set_each (λ (i : ℕ) (z : Healer). IsHealer true p log (17 + i) servers z) healers (a - 17) after (λ i z apart h. v.whole.healing.each i z h)
-            (subst (λ (c : ℕ). IsHealer true p log c servers after) (sym again) (laws.tasks p a log servers item x v.whole.kept.runnable.few some low given none mine));
-      };
-      pacing = record {
-        clients = v.whole.pacing.clients;
-        rounds = set_each (λ (i : ℕ) (z : Healer). IsPacedRound p (17 + i) log z.round) healers (a - 17) after (λ i z apart h. v.whole.pacing.rounds i z h)
-            (subst (λ (c : ℕ). IsPacedRound p c log (Some (task_from p.shape item))) (sym again) paced);
-        rising = v.whole.pacing.rising;
-        within = v.whole.pacing.within;
-      };
+    kept = v.kept;
+    healing = record {
+      same = length-set healers (a - 17) after ∙ v.healing.same;
+      each = set_each (λ (i : ℕ) (z : Healer). IsHealer true p log (17 + i) servers z) healers (a - 17) after (λ i z apart h. v.healing.each i z h)
+          (subst (λ (c : ℕ). IsHealer true p log c servers after) (sym again) (laws.tasks p a log servers item x v.kept.runnable.few some low given none mine));
+    };
+    pacing = record {
+      clients = v.pacing.clients;
+      rounds = set_each (λ (i : ℕ) (z : Healer). IsPacedRound p (17 + i) log z.round) healers (a - 17) after (λ i z apart h. v.pacing.rounds i z h)
+          (subst (λ (c : ℕ). IsPacedRound p c log (Some (task_from p.shape item))) (sym again) paced);
+      rising = v.pacing.rising;
+      within = v.pacing.within;
     };
     crawling = λ e. record {
       can = crawling.can;

@@ -109,7 +109,10 @@ module _ (crawl : Bool) (p : Plan) (log : List Line) (sources picked : List (Opt
   works_are = rw many refl
 
   pub done_is : x.killed ≡ is_killed a log → x.ended ≡ ended a log → (result : Bool) → result ≡ (x.killed || (not (crawl && (nat_lt 17 a && is_some x.round)) && nat_le (length (rounds_of p a)) x.ended)) → result ≡ is_done_in a state
-  done_is killed counted result is = is ∙ rw (killed, counted, ← has_is, ← works_are) refl
+  done_is killed counted result is =
+      is
+      ∙ rw (killed, counted)
+      (ap (λ (tasked : Bool). is_killed a log || (not tasked && nat_le (length (rounds_of p a)) (ended a log))) (sym has_is) ∙ ap (λ (works : ℕ). is_killed a log || (not (has_task a state) && nat_le works (ended a log))) (sym works_are))
 
   -- where it isn't done, a round that begins is the plan's
   pub left_is : x.ended ≡ ended a log → is_done_in a state ≡ false → x.round ≡ None → x.ended < length (rounds_of p a)

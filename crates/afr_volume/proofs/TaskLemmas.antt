@@ -95,7 +95,7 @@ killed_crawl p event log healers after killed k = record { can = k.can; tasks = 
 -- ---- a healer is made ready
 -- a plan that is crawled has no rounds for workers
 pub no_rounds : (p : Plan) (a k : ℕ) (b : BrickId) → CanCrawl p → IsWorker a → slice_get (rounds_of p a) k ≡ Some b → ⊥
-no_rounds p a k b can worker is = let none : slice_get [] k ≡ Some b = rw can.crawls a worker at is in cc none
+no_rounds p a k b can worker is = let none : slice_get [] k ≡ Some b = rw (can.crawls a worker) at is in cc none
 
 -- with a round under way it has the task that it had
 ready_task : (shape : Shape) (heals : Bool) (b : BrickId) (round : Option Rounding) → (round ≡ None → ⊥) → task_at (Some (made_ready (round_or shape heals b round))) ≡ task_at round

@@ -34,9 +34,16 @@ within_is : (what : What) → what_within (kind_within what) ≡ what
 within_is File = refl
 within_is Dir = refl
 
+-- what an item with this object has, and the item of a heal that comes after the attributes
+abbrev item_of : Gfid → What → Option (Gfid × What)
+item_of g what = Some (g, what)
+
+abbrev item_by_heal : Gfid × Kind → Gfid × What
+item_by_heal heal = (heal.0, what_within heal.1)
+
 item_is : (item : Gfid × What) (n : ℕ) (g : Gfid) (kind : Kind) → slice_get (heals_of (item ∷ [])) n ≡ Some (g, kind) → 2 ≤ n + 1 → Some (g, what_within kind) ≡ Some item
 item_is item zero g kind due most = absurd (omega (arith, most))
-item_is item (suc zero) g kind due most = ap (option_map (λ (d : Gfid × Kind). (d.0, what_within d.1))) (sym due) ∙ ap (λ (what : What). Some (item.0, what)) (within_is item.1)
+item_is item (suc zero) g kind due most = ap (option_map item_by_heal) (sym due) ∙ ap (item_of item.0) (within_is item.1)
 item_is item (suc (suc n)) g kind due most = absurd (cc due)
 
 after_line : (item : Gfid × What) (line : Line) (w : Work) → KeepsToItem item line w → (2 ≤ heals_ended w → item_by w ≡ Some item) → 2 ≤ plus_healed line (heals_ended w) → item_after line (item_by w) ≡ Some item

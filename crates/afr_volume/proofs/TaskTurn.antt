@@ -1,5 +1,5 @@
 -- A healer's whole turn leaves each other worker its task, and its own goes on or is over.
-use Rattle.std.proofs.Common.{◌≡◌, ◌∙◌, ℕ, suc, ◌+◌, ◌-◌, ◌<◌, ◌≤◌, Bool, true, false, List, [], ◌∷◌, ◌++◌, reverse, Option, None, Some, if◌then◌else◌, refl, sym, ap, arith, subst, length, option_map, slice_get}
+use Rattle.std.proofs.Common.{◌≡◌, ◌∙◌, ℕ, suc, ◌+◌, ◌-◌, ◌<◌, ◌≤◌, Bool, true, false, List, [], ◌∷◌, Option, None, Some, if◌then◌else◌, refl, sym, ap, arith, subst, length, option_map, slice_get}
 use Rattle.afr_base.specs.declared.ids.ActorId.{ActorId}
 use Rattle.afr_base.specs.declared.ids.Gfid.{Gfid}
 use Rattle.afr_base.specs.declared.ids.What.{What}
@@ -8,19 +8,14 @@ use Rattle.afr_healer.specs.Keeping.{IsHealer}
 use Rattle.afr_healer.specs.Laws.{RoundKeeps}
 use Rattle.afr_healer.specs.declared.healer.Healer.{Healer}
 use Rattle.afr_lines.specs.Work.{is_end, work}
-use Rattle.afr_lines.specs.declared.line.Event.{Event}
 use Rattle.afr_lines.specs.declared.line.Line.{Line}
-use Rattle.afr_lines.specs.declared.line.Line.TheVariants as line_of
 use Rattle.afr_plan.specs.declared.plan.Plan.{Plan}
 use Rattle.afr_server.specs.Serving.{Serving}
 use Rattle.afr_volume.specs.Keeping.{AreCrawling, IsAtIts, IsAtTask}
 use Rattle.afr_volume.specs.Tasks.{item_in, of_workers, task_at, task_of, tasks_of}
-use Rattle.afr_volume.specs.Turning.{IsTaskLine, KillsHealersIn, ReadiedHealerAt, StepsHealerAt}
+use Rattle.afr_volume.specs.Turning.{IsTaskLine, ReadiedHealerAt, StepsHealerAt}
 use Rattle.afr_volume.proofs.PaceAll.{set_each}
-use Rattle.afr_volume.proofs.HealersKeep.{differ}
-use Rattle.afr_volume.proofs.LineKeeps.{Wrote, other_work}
-use Rattle.afr_volume.proofs.LogLemmas.{reverse_push}
-use Rattle.afr_volume.proofs.TaskLemmas.{beside, get_set_here, get_set_other, killed_crawl, others_crawl, readied_crawls, readied_tasks, worker_get}
+use Rattle.afr_volume.proofs.TaskLemmas.{beside, get_set_here, get_set_other, readied_crawls, readied_tasks, worker_get}
 use Rattle.afr_volume.proofs.TaskSteps.{GoesOn, IsOver, StepsTask, steps_task, tried}
 
 -- what the turn leaves of the tasks
@@ -96,7 +91,7 @@ module _ (p : Plan) (a : ActorId) (log : List Line) (servers new : List Serving)
     own_kept : IsTaskLine a.0 item line log (of_workers now)
     own_kept = record {
       present =
-          let there : slice_get now (suc (a.0 - 18)) ≡ Some s.after = subst (λ (i : ℕ). slice_get now i ≡ Some s.after) place (rw s.set_is (get_set_here readied (a.0 - 17) s.before s.after s.was)) in
+          let there : slice_get now (suc (a.0 - 18)) ≡ Some s.after = subst (λ (i : ℕ). slice_get now i ≡ Some s.after) place (ap (λ (l : List Healer). slice_get l (a.0 - 17)) s.set_is ∙ get_set_here readied (a.0 - 17) s.before s.after s.was) in
           worker_get now (a.0 - 18) ∙ ap (option_map task_of) there ∙ ap Some (after_task (steps worker));
       tried = λ e. tried p a log servers new s.before s.after line worker few acting k s.steps (at_task worker) e ∙ ap Some same_item;
     }
@@ -109,13 +104,3 @@ pub keeps_tasks : (crawl : Bool) (p : Plan) (a : ActorId) (log : List Line) (ser
     → (s : StepsHealerAt IsAnswered a (length log) readied now servers new line) → IsHealer crawl p log a.0 servers s.before → RoundKeeps crawl p a log line s.after servers new → ((c : ℕ) → (a.0 ≡ c → ⊥) → work c (line ∷ log) ≡ work c log) → KeepsTasks crawl p a.0 log healers now line
 keeps_tasks true p a log servers new healers readied now line low high few was r s acting k apart = kept p a log servers new healers readied now line low high few (was refl) r s acting k apart
 keeps_tasks false p a log servers new healers readied now line low high few was r s acting k apart = record { crawling = λ e. absurd (cc e); others = λ i other. refl; own = λ item worker is. absurd (cc is) }
-
--- ---- lines of others
--- a client's line leaves the workers at their tasks
-pub client_crawl : (p : Plan) (a : ActorId) (items added : List Line) (line : Line) (healers : List Healer) → a.0 ≤ 16 → Wrote a line → reverse added ≡ line ∷ reverse items → AreCrawling p (reverse items) healers → AreCrawling p (reverse added) healers
-client_crawl p a items added line healers client wrote grown k =
-    subst (λ (log : List Line). AreCrawling p log healers) (sym grown) (others_crawl p line (reverse items) healers (λ c low. other_work a c line (reverse items) wrote (differ a.0 c (λ e. absurd (omega (arith, client, low, e))))) k)
-
--- so does an event
-pub event_crawl : (p : Plan) (event : Event) (items added : List Line) (healers after : List Healer) → KillsHealersIn event healers after → added ≡ items ++ line_of.Event event ∷ [] → AreCrawling p (reverse items) healers → AreCrawling p (reverse added) after
-event_crawl p event items added healers after killed grown k = rw (grown, reverse_push items (line_of.Event event)) (killed_crawl p event (reverse items) healers after killed k)

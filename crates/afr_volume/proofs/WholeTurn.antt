@@ -20,7 +20,7 @@ use Rattle.afr_plan.specs.declared.plan.Plan.{Plan}
 use Rattle.afr_model.specs.Actors.{IsActor, is_done, works_of, script_of}
 use Rattle.afr_model.specs.Following.{NoneDue}
 use Rattle.afr_volume.specs.Acting.{CanStep, HearsAny, Stepped}
-use Rattle.afr_volume.specs.Keeping.{AreHealers, CanRun, Carries, IsActing, IsVolume, IsWhole}
+use Rattle.afr_volume.specs.Keeping.{AreCrawling, AreHealers, CanRun, Carries, IsActing, IsVolume, IsWhole}
 use Rattle.afr_volume.specs.Laws.{BeginLaws, Laws, RoundLaws}
 use Rattle.afr_volume.specs.Pacing.{ArePaced}
 use Rattle.afr_volume.specs.State.{State}
@@ -31,8 +31,9 @@ use Rattle.afr_volume.specs.declared.turned.Turned.{Turned}
 use Rattle.afr_volume.specs.declared.turned.Turned.TheVariants.{Moved, Waits}
 use Rattle.afr_volume.proofs.LogLemmas.{reverse_push}
 use Rattle.afr_volume.proofs.Before.{IsBefore, client_is}
-use Rattle.afr_volume.proofs.HealersKeep.{healers_stay}
-use Rattle.afr_volume.proofs.LineKeeps.{LineKeeps, Wrote, wrote_own}
+use Rattle.afr_volume.proofs.HealersKeep.{differ, healers_stay}
+use Rattle.afr_volume.proofs.LineKeeps.{LineKeeps, Wrote, other_work, wrote_own}
+use Rattle.afr_volume.proofs.TaskLemmas.{others_crawl}
 use Rattle.afr_volume.proofs.ReadyLemmas.{script_is}
 use Rattle.afr_volume.proofs.TurnKeeps.{before_turn, can_step, got_same, kept_ready, kept_turn, line_keeps}
 use Rattle.std.proofs.Common.{inl, inr}
@@ -138,11 +139,13 @@ module _ {crawl : Bool} (laws : Laws) (starts : BeginLaws) (p : Plan) (a : Actor
 
   -- with the healers, which the line leaves as they were
   pub whole : (rounds : RoundLaws) (healers : List Healer) (added : List Line) (new_servers : List Serving) (new_actors : List Actor) (line : Line) → Took added new_servers new_actors line → AreHealers crawl p (reverse items) servers healers
-      → ArePaced p (reverse added) new_actors healers → IsWhole crawl p (reverse added) new_servers new_actors healers made
-  whole rounds healers added new_servers new_actors line t k paced = record {
+      → ArePaced p (reverse added) new_actors healers → (crawl ≡ true → AreCrawling p (reverse items) healers) → IsWhole crawl p (reverse added) new_servers new_actors healers made
+  whole rounds healers added new_servers new_actors line t k paced crawling = record {
     kept = t.volume;
     healing = subst (λ (log : List Line). AreHealers crawl p log new_servers healers) (sym t.log) (healers_stay rounds p a line (reverse items) servers new_servers healers client t.wrote t.stands t.found k);
     pacing = paced;
+    crawling = λ crawls. subst (λ (log : List Line). AreCrawling p log healers) (sym t.log)
+        (others_crawl p line (reverse items) healers (λ c low. other_work a c line (reverse items) t.wrote (differ a.0 c (λ same. absurd (omega (arith, client, low, same))))) (crawling crawls));
   }
 
   pub took : (at : ℕ) (added : List Line) (new_actors : List Actor) (new_servers : List Serving) (line : Line) → is_done p a.0 (reverse items) ≡ false → due_at p (reverse items) ≡ None → at ≡ length items

@@ -124,12 +124,6 @@ pub record AreHealers (crawl : Bool) (p : Plan) (log : List Line) (servers : Lis
   pub same : length healers ≡ length p.healers
   pub each : (i : ℕ) (x : Healer) → slice_get healers i ≡ Some x → IsHealer crawl p log (17 + i) servers x
 
--- and of the healers; and all keep their pace
-pub record IsWhole (crawl : Bool) (p : Plan) (log : List Line) (servers : List Serving) (actors : List Actor) (healers : List Healer) (made : ℕ) : Type 0 where
-  pub kept : IsVolume crawl p log servers actors made
-  pub healing : AreHealers crawl p log servers healers
-  pub pacing : ArePaced p log actors healers
-
 -- ---- where the healers crawl
 -- a worker is at a task: its list is one item, and its lines so far are of that item
 pub record IsAtTask (a : ℕ) (log : List Line) (m : Rounding) : Type 0 where
@@ -146,7 +140,10 @@ pub record AreCrawling (p : Plan) (log : List Line) (healers : List Healer) : Ty
   pub can : CanCrawl p
   pub tasks : (i : ℕ) (x : Healer) → slice_get healers i ≡ Some x → 1 ≤ i → IsAtIts (17 + i) log x.round
 
--- all that a volume keeps
-pub record IsSound (crawl : Bool) (p : Plan) (log : List Line) (servers : List Serving) (actors : List Actor) (healers : List Healer) (made : ℕ) : Type 0 where
-  pub whole : IsWhole crawl p log servers actors healers made
+-- ---- the whole
+-- and of the healers; all keep their pace, and where the healers crawl, each worker is at its task
+pub record IsWhole (crawl : Bool) (p : Plan) (log : List Line) (servers : List Serving) (actors : List Actor) (healers : List Healer) (made : ℕ) : Type 0 where
+  pub kept : IsVolume crawl p log servers actors made
+  pub healing : AreHealers crawl p log servers healers
+  pub pacing : ArePaced p log actors healers
   pub crawling : crawl ≡ true → AreCrawling p log healers

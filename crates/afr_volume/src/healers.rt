@@ -9,7 +9,7 @@ ghost use Rattle.afr_rule.specs.Choosing.{IsRule};
 ghost use Rattle.afr_volume.specs.Starting.{AreNewHealers};
 ghost use Rattle.afr_volume.specs.Turning.{HasHealer, KillsHealersIn, ReadiedHealerAt, StepsHealerAt};
 
-use afr_base::{ActorId, FIRST_HEALER, NoMemory};
+use afr_base::{ActorId, BrickId, FIRST_HEALER, NoMemory};
 use afr_healer::{Healer, ready_round, step_round};
 use afr_lines::Event;
 use afr_log::Log;

@@ -75,7 +75,7 @@ impl Model for Volume {
     ghost use Rattle.std.specs.Prelude.{reverse};
     ghost use Rattle.afr_law_picks.specs.Sources.Sources.{sources_of};
     ghost use Rattle.afr_volume.specs.Acting.{picked_of};
-    ghost use Rattle.afr_volume.specs.Keeping.{IsSound};
+    ghost use Rattle.afr_volume.specs.Keeping.{IsWhole};
     ghost use Rattle.afr_volume.specs.State.{State};
     ghost use Rattle.afr_volume.specs.Tasks.{tasks_of};
 
@@ -83,7 +83,7 @@ impl Model for Volume {
 
     ghost view = { λ v. record { plan = v.plan; log = reverse v.log.items; sources = sources_of v.healers.items; picked = picked_of v.actors.items; crawl = v.crawl; tasks = tasks_of v.crawl v.healers.items } };
 
-    ghost invariant = { λ v. IsSound v.crawl v.plan (reverse v.log.items) v.servers v.actors.items v.healers.items v.made };
+    ghost invariant = { λ v. IsWhole v.crawl v.plan (reverse v.log.items) v.servers v.actors.items v.healers.items v.made };
 }
 
 impl Volume {

@@ -1,6 +1,6 @@
 use Rattle.std.proofs.Common.{◌∙◌, arith, refl, reverse, subst, sym}
 use Rattle.std.proofs.lemmas.Bool.Decides.{nat_tests}
-use Rattle.afr_volume.proofs.HealerTurn.{answered_at, busy, healed, healer_left, known, ready_sound, sources_kept, steps}
+use Rattle.afr_volume.proofs.HealerTurn.{answered_at, busy, healed, healer_left, known, ready_whole, sources_kept, steps}
 use Rattle.afr_volume.proofs.TaskDone.{not_killed_in}
 use Rattle.afr_volume.specs.Tasks.{tasks_of}
 use Rattle.afr_law_picks.specs.Sources.Sources.{picks_of, sources_of}
@@ -26,14 +26,14 @@ step_healer-requires-clause-can g c = steps c.laws.ensures.rounds c.laws.ensures
 pub invariant_of-self-in_err-step_healer : goal.invariant_of-self-in_err-step_healer
 invariant_of-self-in_err-step_healer g c =
     rw (c.in_err-step_healer.ensures.err.2, c.in_ok-make_room.ensures.items, c.in_err-step_healer.ensures.err.0, c.in_err-step_healer.ensures.err.1)
-    (ready_sound c.laws.ensures.rounds c.laws.ensures.paces c.self.inside.plan c.args.a c.self.inside.log.items c.self.inside.actors.items c.self.inside.healers.items c.ready_healer.new.healers.items c.self.inside.servers c.self.inside.made c.self.invariant c.requires.healer (rw (← c.self.view_is) at c.requires.actor)
+    (ready_whole c.laws.ensures.rounds c.laws.ensures.paces c.self.inside.plan c.args.a c.self.inside.log.items c.self.inside.actors.items c.self.inside.healers.items c.ready_healer.new.healers.items c.self.inside.servers c.self.inside.made c.self.invariant c.requires.healer (rw (← c.self.view_is) at c.requires.actor)
     (few_items c.self.inside.plan c.self.inside.log.items (rw (← c.self.view_is) at c.requires.room)) c.in_ok-ready_healer.ensures.ok)
 
 pub invariant_of-self-2 : goal.invariant_of-self-2
 invariant_of-self-2 g c = (healed c.laws.ensures.rounds c.laws.ensures.paces c.self.inside.plan c.args.a c.self.inside.log.items c.self.inside.actors.items c.self.inside.healers.items c.ready_healer.new.healers.items c.self.inside.servers c.self.inside.made c.self.invariant c.requires.healer (rw (← c.self.view_is) at c.requires.actor)
     (few_items c.self.inside.plan c.self.inside.log.items (rw (← c.self.view_is) at c.requires.room)) c.in_ok-ready_healer.ensures.ok c.len-position.result c.step_healer.new.log.items c.step_healer.new.healers.items c.step_healer.new.servers c.in_ok-step_healer.ensures.ok.line
     (rw (← c.self.view_is) at (not_killed_in c.args.a.0 c.args.self.now c.requires.left)) (rw (← c.self.view_is) at c.requires.none) (grind (arith, nat_tests, c.len-position.ensures)) (answered_at _ _ _ _ _ _ _ _ _ c.in_ok-step_healer.ensures.ok.is_so)
-    (rw (← c.in_ok-make_room.ensures.items) c.in_ok-step_healer.ensures.ok.added)).sound
+    (rw (← c.in_ok-make_room.ensures.items) c.in_ok-step_healer.ensures.ok.added)).whole
 
 pub returns-clause-ok : goal.returns-clause-ok
 returns-clause-ok g c =
