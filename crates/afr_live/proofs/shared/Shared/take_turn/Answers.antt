@@ -1,5 +1,6 @@
 -- What a turn tells of locks is noted, and the work that its line ends is counted.
 use Rattle.std.proofs.Common.{◌∙◌, ◌<◌}
+use Rattle.afr_live.proofs.EndLemmas.{takes_turn}
 use Rattle.afr_live.proofs.NotedLemmas.{low_actor, turn_eager, turn_noted}
 use Rattle.afr_volume.proofs.GoingLemmas.{turn_goes}
 use Rattle.afr_live.proofs.shared.Shared.take_turn.Goals as goal
@@ -32,3 +33,6 @@ invariant_of-self g c = rw c.in_err-turned.ensures.err (record {
   noted = c.come_due.new.self.noted;
   eager = c.come_due.new.self.eager;
 })
+
+pub returns-clause-ok : goal.returns-clause-ok
+returns-clause-ok g c = takes_turn c.args.a c.args.self.now.volume c.come_due.new.self.volume c.turn.new.self c.in_ok-turned.turned c.come_due.ensures.goes c.in_ok-turned.ensures.ok
