@@ -26,6 +26,7 @@ use Rattle.afr_volume.specs.Keeping.{AreCrawling, IsAtIts, IsVolume, IsWhole}
 use Rattle.afr_volume.specs.Laws.{RoundLaws}
 use Rattle.afr_volume.specs.State.{State, no_tasks}
 use Rattle.afr_volume.specs.Tasks.{item_in, of_workers, task_at, task_of, tasks_of}
+use Rattle.afr_volume.specs.Turning.{GivesTask, RestsFirst}
 use Rattle.afr_volume.specs.declared.actor.Actor.{Actor}
 use Rattle.afr_volume.proofs.PaceAll.{set_each}
 use Rattle.afr_volume.proofs.SourceLemmas.{all_rest_first}
@@ -231,3 +232,46 @@ module _ (laws : RoundLaws) (p : Plan) (a : ℕ) (log : List Line) (servers : Li
       given_to : (l : List Healer) (i : ℕ) → of_workers (slice_set l (suc i) after) ≡ slice_set (of_workers l) i (Some item)
       given_to [] i = refl
       given_to (z ∷ l) i = map_set l i
+
+-- ---- as the volume shows it
+-- the healers crawl, and no worker is at a task
+module _ {crawl : Bool} (p : Plan) (log : List Line) (servers : List Serving) (actors : List Actor) (healers new : List Healer) (made : ℕ) (picked : List (Option ℕ)) (can : CanCrawl p) (v : IsWhole crawl p log servers actors healers made) (none : log ≡ []) (r : RestsFirst healers new) where
+  first_whole : IsWhole crawl p [] servers actors healers made
+  first_whole = subst (λ (l : List Line). IsWhole crawl p l servers actors healers made) none v
+
+  pub crawling_whole : IsWhole true p log servers actors new made
+  crawling_whole =
+      subst (λ (l : List Line). IsWhole true p l servers actors new made) (sym none)
+      (subst (λ (l : List Healer). IsWhole true p [] servers actors l made) (sym r.set_is) (crawl_begins p servers actors healers made can first_whole r.before r.was))
+
+  pub crawling_state : ◌≡◌ {A = State} (record { plan = p; log = log; sources = sources_of new; picked = picked; crawl = true; tasks = tasks_of true new })
+      (record { plan = p; log = log; sources = sources_of healers; picked = picked; crawl = true; tasks = no_tasks true })
+  crawling_state = λ i. record { plan = p; log = log; sources = same_sources i; picked = picked; crawl = true; tasks = same_tasks i }
+    where
+      same_sources : sources_of new ≡ sources_of healers
+      same_sources = ap sources_of r.set_is ∙ crawl_sources p servers actors healers made can first_whole r.before r.was
+
+      same_tasks : tasks_of true new ≡ no_tasks true
+      same_tasks = ap of_workers r.set_is ∙ crawl_tasks p servers actors healers made can first_whole r.before r.was
+
+-- a worker has its task
+module _ (laws : RoundLaws) (p : Plan) (a : ℕ) (log : List Line) (servers : List Serving) (actors : List Actor) (healers new : List Healer) (made : ℕ) (item : Gfid × What) (picked : List (Option ℕ)) (worker : IsWorker a) (given : IsGiven p item log) (r : GivesTask p.shape a item healers new) where
+  pub assigned_whole : (crawl : Bool) → crawl ≡ true → IsWhole crawl p log servers actors healers made → slice_get (tasks_of crawl healers) (a - 18) ≡ Some None → IsWhole crawl p log servers actors new made
+  assigned_whole true crawls v idle = subst (λ (l : List Healer). IsWhole true p log servers actors l made) (sym r.set_is) (task_begins laws p a log servers actors healers made item r.before v worker idle given r.was)
+  assigned_whole false crawls v idle = absurd (cc crawls)
+
+  pub assigned_state : (crawl : Bool) → crawl ≡ true → IsWhole crawl p log servers actors healers made → slice_get (tasks_of crawl healers) (a - 18) ≡ Some None
+      → ◌≡◌ {A = State} (record { plan = p; log = log; sources = sources_of new; picked = picked; crawl = crawl; tasks = tasks_of crawl new })
+      (record { plan = p; log = log; sources = sources_of healers; picked = picked; crawl = crawl; tasks = slice_set (tasks_of crawl healers) (a - 18) (Some item) })
+  assigned_state false crawls v idle = absurd (cc crawls)
+  assigned_state true crawls v idle = λ i. record { plan = p; log = log; sources = same_sources i; picked = picked; crawl = true; tasks = same_tasks i }
+    where
+      same_sources : sources_of new ≡ sources_of healers
+      same_sources = ap sources_of r.set_is ∙ task_sources laws p a log servers actors healers made item r.before v worker idle given r.was
+
+      same_tasks : of_workers new ≡ slice_set (of_workers healers) (a - 18) (Some item)
+      same_tasks = ap of_workers r.set_is ∙ task_given laws p a log servers actors healers made item r.before v worker idle given r.was
+
+-- the worker is there, and the plan has a brick
+pub worker_there : (p : Plan) (a : ℕ) (healers : List Healer) → CanCrawl p → length healers ≡ length p.healers → IsWorker a → a - 17 < length healers
+worker_there p a healers can same worker = let many = can.healers in let low = worker.0 in let high = worker.1 in omega (arith, many, same, low, high)

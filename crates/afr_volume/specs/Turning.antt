@@ -18,6 +18,8 @@ use Rattle.afr_volume.specs.State.{State}
 use Rattle.afr_model.specs.Actors.{rounds_of, script_of}
 use Rattle.afr_model.specs.Crawl.{item_by}
 use Rattle.afr_volume.specs.Tasks.{is_done_in}
+use Rattle.afr_base.specs.declared.ids.Shape.{Shape}
+use Rattle.afr_heal_round.specs.Rounding.{task_from}
 use Rattle.afr_healer.specs.Acting as rounds
 use Rattle.afr_healer.specs.declared.healer.Healer.{Healer}
 use Rattle.afr_client.specs.Begin.{work_from}
@@ -105,6 +107,18 @@ pub record ReadiedHealerAt (crawl : Bool) (p : Plan) (a : ℕ) (old new : List H
   pub present : before.round ≡ None → slice_get (rounds_of p a) before.ended ≡ Some brick
   pub readies : rounds.Readies p.shape (not crawl) brick before after
   pub set_is : new ≡ slice_set old (a - 17) after
+
+-- the first healer has no round
+pub record RestsFirst (old new : List Healer) : Type 0 where
+  pub before : Healer
+  pub was : slice_get old 0 ≡ Some before
+  pub set_is : new ≡ slice_set old 0 (record before { round = None })
+
+-- a healer among all has the task of one item
+pub record GivesTask (shape : Shape) (a : ℕ) (item : Gfid × What) (old new : List Healer) : Type 0 where
+  pub before : Healer
+  pub was : slice_get old (a - 17) ≡ Some before
+  pub set_is : new ≡ slice_set old (a - 17) (record before { round = Some (task_from shape item) })
 
 -- one line of one healer among all, whose round has begun
 pub record StepsHealerAt (Hears : rounds.Hearing) (a : ActorId) (at : ℕ) (old new : List Healer) (bricks after_bricks : List Serving) (written : Line) : Type 0 where

@@ -7,10 +7,10 @@ ghost use Rattle.afr_healer.specs.Acting.{Adds, CanStep};
 ghost use Rattle.afr_healer.specs.declared.healer.Healer.{Healer};
 ghost use Rattle.afr_rule.specs.Choosing.{IsRule};
 ghost use Rattle.afr_volume.specs.Starting.{AreNewHealers};
-ghost use Rattle.afr_volume.specs.Turning.{HasHealer, KillsHealersIn, ReadiedHealerAt, StepsHealerAt};
+ghost use Rattle.afr_volume.specs.Turning.{GivesTask, HasHealer, KillsHealersIn, ReadiedHealerAt, RestsFirst, StepsHealerAt};
 
-use afr_base::{ActorId, BrickId, FIRST_HEALER, NoMemory};
-use afr_healer::{Healer, ready_round, step_round};
+use afr_base::{ActorId, BrickId, FIRST_HEALER, Gfid, NoMemory, Shape, What};
+use afr_healer::{Healer, begin_task, ready_round, step_round};
 use afr_lines::Event;
 use afr_log::Log;
 use afr_plan::Plan;
@@ -90,6 +90,35 @@ pub(crate) fn step_healer<F: Fn(&[Candidate]) -> usize>(
 {
     let healer = &mut healers[a.0 as usize - HEALERS_FROM];
     step_round(healer, a, servers, position, log, rule)?;
+    Ok(())
+}
+
+/// The first healer drops its round, of which no line was written.
+pub(crate) fn rest_first(healers: &mut Vec<Healer>)
+    requires { 0 < length healers.old.items }
+    ensures { RestsFirst healers.old.items healers.new.items }
+{
+    healers[0].round = None;
+}
+
+/// A healer that is at nothing has the task of one item.
+pub(crate) fn give_task(
+    alloc: Global,
+    shape: Shape,
+    a: ActorId,
+    gfid: Gfid,
+    what: What,
+    healers: &mut Vec<Healer>,
+) -> Result<(), NoMemory>
+    requires few { shape.n ≤ 5 }
+    requires some { 0 < shape.n }
+    requires low { 17 ≤ a.0 }
+    requires within { a.0 - 17 < length healers.old.items }
+    ensures ok { OnOk result (GivesTask shape a.0 (gfid, what) healers.old.items healers.new.items) }
+    ensures err { OnErr result (healers.new.items ≡ healers.old.items) }
+{
+    let healer = &mut healers[a.0 as usize - HEALERS_FROM];
+    begin_task(alloc, shape, gfid, what, healer)?;
     Ok(())
 }
 

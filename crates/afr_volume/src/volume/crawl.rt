@@ -4,11 +4,10 @@ ghost use Rattle.afr_lines.specs.Work.{is_killed};
 ghost use Rattle.afr_model.specs.Crawl.{CanCrawl, IsGiven, IsWorker};
 ghost use Rattle.afr_volume.specs.State.{no_tasks};
 
-use crate::healers::HEALERS_FROM;
+use crate::healers::{give_task, rest_first};
 use crate::laws::laws;
 use crate::volume::Volume;
 use afr_base::{ActorId, Gfid, NoMemory, What};
-use afr_healer::begin_task;
 
 impl Volume {
     /// From here on the healers crawl.
@@ -18,7 +17,7 @@ impl Volume {
         ensures { self.new ≡ record self.old { crawl = true; tasks = no_tasks true } }
     {
         // A turn that wanted memory may have left a round that heals, of which no line was written.
-        self.healers[0].round = None;
+        rest_first(&mut self.healers);
         self.crawl = true;
     }
 
@@ -40,8 +39,14 @@ impl Volume {
         ensures err { OnErr result (self.new ≡ self.old) }
     {
         laws();
-        let healer = &mut self.healers[a.0 as usize - HEALERS_FROM];
-        begin_task(self.alloc, self.plan.shape, gfid, what, healer)?;
+        give_task(
+            self.alloc,
+            self.plan.shape,
+            a,
+            gfid,
+            what,
+            &mut self.healers,
+        )?;
         Ok(())
     }
 }

@@ -1,6 +1,8 @@
 use Rattle.std.proofs.Common.{◌≡◌, ◌≤◌, Bool, false, arith, length, reverse, subst}
 use Rattle.afr_model.specs.Following.{Follows}
 use Rattle.afr_volume.proofs.TaskBegins.{first_tasks}
+use Rattle.afr_law_picks.specs.Sources.Sources.{sources_of}
+use Rattle.afr_volume.specs.Acting.{picked_of}
 use Rattle.afr_volume.specs.State.{State}
 use Rattle.afr_model.specs.Sums.{AreSums}
 use Rattle.afr_volume.proofs.FreshReads.{all_fresh}
@@ -10,7 +12,7 @@ use Rattle.afr_volume.proofs.SourceLemmas.{all_rest_first, rested_state}
 use Rattle.afr_volume.proofs.volume.Volume.every_line.Goals as goal
 
 pub returns-clause-settled : goal.returns-clause-settled
-returns-clause-settled c = rw (← c.self.view_is) (all_rest c.laws.ensures.rounds _ _ _ _ _ _ _ _ c.self.invariant)
+returns-clause-settled c = rw (← c.self.view_is) (all_rest c.laws.ensures.rounds _ _ _ _ _ _ (sources_of c.self.inside.healers.items) (picked_of c.self.inside.actors.items) c.self.invariant)
 
 pub returns-clause-right : goal.returns-clause-right
 returns-clause-right c =
