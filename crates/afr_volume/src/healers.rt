@@ -131,8 +131,23 @@ pub(crate) fn is_healer_done(plan: &Plan, crawl: bool, a: ActorId, healers: &Vec
 {
     let at = a.0 as usize - HEALERS_FROM;
     let healer = &healers[at];
-    let at_task = crawl && at > 0 && healer.round.is_some();
-    healer.killed || (!at_task && healer.ended as usize >= plan.healers.item(at).len())
+    let tasked = is_at_task(crawl, at, healer);
+    let rounds = plan.healers.item(at).len();
+    has_ended(healer, tasked, rounds)
+}
+
+/// Whether the healer at this place is a worker that is at a task.
+fn is_at_task(crawl: bool, at: usize, healer: &Healer) -> bool
+    ensures { result ≡ (crawl && (nat_lt 0 at && is_some healer.now.round)) }
+{
+    crawl && at > 0 && healer.round.is_some()
+}
+
+/// Whether a healer was killed, or is at no task and has ended so many rounds.
+fn has_ended(healer: &Healer, tasked: bool, rounds: usize) -> bool
+    ensures { result ≡ (healer.now.killed || (not tasked && nat_le rounds healer.now.ended)) }
+{
+    healer.killed || (!tasked && healer.ended as usize >= rounds)
 }
 
 /// The healer that an event kills is dead from then on.
