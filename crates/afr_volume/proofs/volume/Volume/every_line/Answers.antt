@@ -17,7 +17,7 @@ returns-clause-settled c = rw (← c.self.view_is) (all_rest c.laws.ensures.roun
 pub returns-clause-right : goal.returns-clause-right
 returns-clause-right c =
     let kept = c.self.invariant.kept in
-    let plainly = λ (plain : c.self.inside.crawl ≡ false). subst (λ (goes : Bool). Follows goes c.self.inside.plan (reverse c.self.inside.log.items)) plain kept.follows in
+    let plainly : (c.self.inside.crawl ≡ false → Follows false c.self.inside.plan (reverse c.self.inside.log.items)) = λ plain. subst (λ (goes : Bool). Follows goes c.self.inside.plan (reverse c.self.inside.log.items)) plain kept.follows in
     let few : length (reverse c.self.inside.log.items) ≤ 4000000 = omega (arith, kept.room, kept.runnable.turns) in
     rw (← c.self.view_is)
     (record {
