@@ -1,5 +1,5 @@
 -- One healer among all, as the code finds it.
-use Rattle.std.proofs.Common.{◌≡◌, ◌∙◌, ℕ, ◌-◌, ◌<◌, true, List, [], refl, ap, sym, subst, length, Some, slice_get, set, get_or, Bool, None, not, ◌≤◌, ◌&&◌, ◌||◌, arith, nat_le, nat_lt}
+use Rattle.std.proofs.Common.{◌≡◌, ◌∙◌, ℕ, ◌-◌, ◌<◌, true, false, List, [], refl, ap, sym, subst, length, Some, slice_get, set, get_or, Bool, None, not, ◌≤◌, ◌&&◌, ◌||◌, arith, nat_le, nat_lt}
 use Rattle.std.proofs.lemmas.Bool.Decides.{nat_tests}
 use Rattle.std.specs.Prelude.{is_some}
 use Rattle.std.proofs.lemmas.Option.{get_or_from_slice_get, slice_get-get_or}
