@@ -1,20 +1,20 @@
 //! Turns of actors in the stated order, and runs that were recorded made again.
 #![tactic(auto)]
 
-ghost use Rattle.std.specs.Prelude.{◌≡◌, IfOk, OnOk, [], false};
+ghost use Rattle.std.specs.Prelude.{◌≡◌, IfOk, Ok, OnOk, [], false, length};
 ghost use Rattle.afr_model.specs.Complete.{IsComplete};
 ghost use Rattle.afr_model.specs.Ordered.{IsOrdered, ordered_turns};
 ghost use Rattle.afr_order.specs.Ending.{EndsInBound};
 ghost use Rattle.afr_order.specs.Onward.{Extends};
-ghost use Rattle.afr_volume.specs.Going.{Ends, Goes, TakesFront, TakesPasses};
+ghost use Rattle.afr_volume.specs.Going.{ClientsRun, Ends, Goes, TakesFront, TakesPasses};
 ghost use Rattle.afr_rule.specs.Choosing.{IsRule};
-ghost use Rattle.afr_volume.specs.Right.{IsChosenBy, IsRight, KeepsChosen};
+ghost use Rattle.afr_volume.specs.Right.{IsChosenBy, IsRight, IsRightFor, KeepsChosen};
 
 mod remaking;
 mod rows;
 mod turns;
 
-use crate::rows::{all_orders, all_passes};
+use crate::rows::{all_orders, all_passes, client_orders};
 use afr_base::NoMemory;
 use afr_law_bound::an_ordered_run_ends;
 use afr_rule::{Candidate, Rules};
@@ -64,6 +64,24 @@ pub fn take_orders<F: Fn(&[Candidate]) -> usize, G: Fn(&[Candidate]) -> usize>(
     ensures chosen { KeepsChosen F.Fn G.Fn rules.now volume.old volume.new }
 {
     let taken = all_orders(volume, rules);
+    volume.every_line();
+    taken
+}
+
+/// Takes the turns that the orders of clients give, whatever the log already has, and passes over those of healers. It answers
+/// whether the log had room.
+pub fn take_client_orders<F: Fn(&[Candidate]) -> usize, G: Fn(&[Candidate]) -> usize>(
+    volume: &mut Volume,
+    rules: &Rules<F, G>,
+) -> Result<bool, NoMemory>
+    requires rule { IsRule F.Fn rules.now.heal }
+    requires read_rule { IsRule G.Fn rules.now.read }
+    ensures goes { Goes volume.old volume.new }
+    ensures runs { ClientsRun volume.old volume.new }
+    ensures full { result ≡ Ok false → length volume.new.log ≡ volume.new.plan.turns }
+    ensures right { IsRightFor volume.new.crawl volume.new.plan volume.new.log }
+{
+    let taken = client_orders(volume, rules);
     volume.every_line();
     taken
 }

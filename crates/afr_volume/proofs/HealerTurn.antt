@@ -1,10 +1,12 @@
 -- A healer's whole turn: its premises from what the volume keeps, and what it leaves.
-use Rattle.std.proofs.Common.{◌≡◌, ◌∙◌, ℕ, zero, suc, ◌+◌, ◌-◌, ◌<◌, ◌≤◌, true, false, List, [], ◌∷◌, ◌++◌, refl, sym, ap, arith, subst, length, Option, Some, None, slice_get, set, reverse, nat_le, nat_lt, not, Bool, ◌&&◌, ◌||◌}
+use Rattle.std.proofs.Common.{◌≡◌, ◌∙◌, ℕ, zero, suc, ◌+◌, ◌-◌, ◌<◌, ◌≤◌, true, false, List, [], ◌∷◌, ◌++◌, refl, sym, ap, arith, subst, length, Option, Some, None, slice_get, set, reverse, nat_le, nat_lt, not, Bool, ◌&&◌, ◌||◌, ◌⊎◌, ◌≢◌, ◌==◌, inl, inr}
 use Rattle.std.specs.Prelude.{is_some}
-use Rattle.std.proofs.lemmas.Bool.Decides.{nat_tests}
+use Rattle.std.proofs.lemmas.Bool.Decides.{eqb_tells, nat_tests}
 use Rattle.std.proofs.lemmas.List.{length-reverse}
 use Rattle.std.proofs.lemmas.Option.{slice_get_within}
 use Rattle.afr_base.specs.declared.ids.ActorId.{ActorId}
+use Rattle.afr_base.specs.declared.ids.Gfid.{Gfid}
+use Rattle.afr_base.specs.declared.ids.What.{What}
 use Rattle.afr_heal_round.specs.Rounding.{IsAnswered, IsFed, Rounding}
 use Rattle.afr_lines.specs.Work.{ended, is_killed, is_of, work}
 use Rattle.afr_lines.specs.declared.line.Line.{Line}
@@ -14,7 +16,7 @@ use Rattle.afr_plan.specs.declared.plan.Plan.{Plan}
 use Rattle.afr_healer.specs.Acting.{CanStep, Stepped}
 use Rattle.afr_healer.proofs.Fed.{steps_answered}
 use Rattle.afr_healer.specs.Keeping.{CarriesIts, IsHealer}
-use Rattle.afr_healer.specs.Laws.{IsBeforeRound, IsMadeReady, IsWritten}
+use Rattle.afr_healer.specs.Laws.{IsBeforeRound, IsMadeReady, IsWritten, RoundKeeps}
 use Rattle.afr_healer.specs.declared.healer.Healer.{Healer}
 use Rattle.afr_rule.specs.Choosing.{Calls}
 use Rattle.afr_server.specs.Serving.{Serving}
@@ -24,6 +26,7 @@ use Rattle.afr_law_picks.specs.Sources.Laws.{LineKeepsSource}
 use Rattle.afr_law_picks.specs.Sources.Sources.{picks_of, sources_of}
 use Rattle.afr_volume.specs.Keeping.{AreCrawling, AreHealers, CanRun, IsVolume, IsWhole}
 use Rattle.afr_volume.specs.Laws.{PaceLaws, RoundLaws}
+use Rattle.afr_volume.specs.Lists.{Lists, ListsLine, given_lists, noted}
 use Rattle.afr_volume.specs.Pacing.{ArePaced}
 use Rattle.afr_volume.specs.State.{State}
 use Rattle.afr_volume.specs.Tasks.{is_done_in, tasks_of}
@@ -31,12 +34,13 @@ use Rattle.afr_volume.specs.Turning.{ReadiedHealerAt, StepsHealerAt, due_at}
 use Rattle.afr_volume.specs.declared.actor.Actor.{Actor}
 use Rattle.afr_volume.proofs.Before.{healer_is}
 use Rattle.afr_volume.proofs.HealersKeep.{before_round, differ, kept_healer, kept_line, kept_round, ready_healer, round_keeps, round_wrote}
-use Rattle.afr_volume.proofs.LineKeeps.{Wrote, other_work, wrote_own}
+use Rattle.afr_volume.proofs.LineKeeps.{Wrote, other_work, wrote_other, wrote_own}
 use Rattle.afr_volume.proofs.PaceHeals.{heal_rises}
 use Rattle.afr_volume.proofs.PaceRounds.{ready_rounds, round_paced}
 use Rattle.afr_volume.proofs.PaceTurns.{is_of_plan}
 use Rattle.afr_volume.proofs.SourceLemmas.{readied_sources}
 use Rattle.afr_volume.proofs.LogLemmas.{reverse_push}
+use Rattle.afr_volume.proofs.ListLemmas.{given_beside, lists_noted}
 use Rattle.afr_volume.proofs.TaskDone.{done_by_plan, done_is, goes_rounds, left_is}
 use Rattle.afr_volume.proofs.TaskLemmas.{readied_crawls}
 use Rattle.afr_volume.proofs.TaskTurn.{KeepsTasks, keeps_tasks}
@@ -134,6 +138,28 @@ module _ {crawl : Bool} (laws : RoundLaws) (paces : PaceLaws) (p : Plan) (a : Ac
       kept : IsWhole crawl p (line ∷ reverse items) new_servers actors (set readied (a.0 - 17) s.after) made
       kept = kept_round laws p a (reverse items) servers new_servers actors readied made line s.before s.after ready_whole healer known some s.was (made_so s.before s.was) few stepped actor alive
           (none_due p (reverse items) few none) paced (rw s.set_is at tasks.crawling)
+
+  -- what is kept of the lists is what the crawler was given
+  pub lists_after : (at : ℕ) (new_healers : List Healer) (new_servers : List Serving) (line : Line) (lists after : Lists) → at ≡ length items → StepsHealerAt IsAnswered a at readied new_healers servers new_servers line → ListsLine crawl a.0 readied servers line lists after
+      → (crawl ≡ true → reverse lists ≡ given_lists p (reverse items)) → crawl ≡ true → reverse after ≡ given_lists p (line ∷ reverse items)
+  lists_after at new_healers new_servers line lists after position s noting was crawls = ap reverse noting.value ∙ by (eqb_tells a.0 17)
+    where
+      same : StepsHealerAt IsAnswered a (length (reverse items)) readied new_healers servers new_servers line
+      same = subst (λ (at : ℕ). StepsHealerAt IsAnswered a at readied new_healers servers new_servers line) (position ∙ sym (length-reverse items)) s
+
+      keeps : RoundKeeps crawl p a (reverse items) line same.after servers new_servers
+      keeps = round_keeps laws p a (reverse items) servers new_servers actors readied made line same.before same.after ready_whole healer known some same.was (made_so same.before same.was) few same.steps
+
+      by : ((a.0 == 17) ≡ true) × (a.0 ≡ 17) ⊎ ((a.0 == 17) ≡ false) × (a.0 ≢ 17) → reverse (noted noting.shown line lists) ≡ given_lists p (line ∷ reverse items)
+      by (inl e) =
+          let first : a.0 - 17 ≡ 0 = omega (arith, e.1) in
+          let there : slice_get readied 0 ≡ Some same.before = subst (λ (i : ℕ). slice_get readied i ≡ Some same.before) first same.was in
+          lists_noted p a (reverse items) servers new_servers same.before same.after line lists noting.shown e.1 w.kept.runnable.clients (w.kept.runnable.rounds 17) w.kept.served (subst (λ (goes : Bool). RoundKeeps goes p a (reverse items) line same.after servers new_servers) crawls keeps) same.steps
+          (noting.shows same.before same.steps.round (rw (crawls, e.0) refl) there same.steps.present) (was crawls)
+      by (inr e) =
+          let nothing : noting.shown ≡ None = noting.none (rw (crawls, e.0) refl) in
+          subst (λ (o : Option (List (Gfid × What))). reverse (noted o line lists) ≡ given_lists p (line ∷ reverse items)) (sym nothing)
+          (was crawls ∙ sym (given_beside p line (reverse items) (wrote_other a 17 line (round_wrote laws p a (reverse items) servers new_servers actors readied made line same.before same.after ready_whole healer known some same.was (made_so same.before same.was) few same.steps) e.0)))
 
   -- where the turn asks a rule, what that picked is kept
   pub sources_kept : {F : Type 0} (calls : Calls F) (choose : F) → LineKeepsSource calls choose → crawl ≡ false → (at : ℕ) (added : List Line) (new_healers : List Healer) (new_servers : List Serving) (line : Line) → at ≡ length items

@@ -9,6 +9,7 @@ mod TaskSteps
 mod TaskTurn
 pub mod TaskDone
 mod TaskBegins
+mod ListLemmas
 mod Opening
 mod ReadyLemmas
 mod Runs

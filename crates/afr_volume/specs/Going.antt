@@ -1,9 +1,10 @@
 -- How turns and events take a log to a longer one.
 use Rattle.std.specs.Prelude.{◌≡◌, ℕ, ◌+◌, ◌≤◌, ◌<◌, Bool, true, false, List, ◌++◌, length}
+use Rattle.afr_base.specs.declared.ids.ActorId.{ActorId}
 use Rattle.afr_lines.specs.declared.line.Line.{Line}
 use Rattle.afr_plan.specs.declared.plan.Plan.{Plan}
 use Rattle.afr_volume.specs.State.{State}
-use Rattle.afr_volume.specs.Turning.{Comes}
+use Rattle.afr_volume.specs.Turning.{Comes, Turns}
 use Rattle.afr_model.specs.Actors.{IsActor, is_done}
 use Rattle.afr_model.specs.Following.{NoneDue}
 use Rattle.afr_model.specs.Ordered.{Writes, actors_of, passes}
@@ -22,6 +23,12 @@ pub record Goes (old new : State) : Type 0 where
 pub data IsHappening (old : State) : State → Type 0 where
   Still : IsHappening old old
   Later : (mid new : State) → IsHappening old mid → Comes mid new → IsHappening old new
+
+-- events that were due, and turns of clients, took the old volume to the new one
+pub data ClientsRun (old : State) : State → Type 0 where
+  AtFirst : ClientsRun old old
+  AfterEvent : (mid new : State) → ClientsRun old mid → Comes mid new → ClientsRun old new
+  AfterTurn : (mid new : State) (a : ActorId) (turned : Turned) → ClientsRun old mid → a.0 ≤ 16 → Turns a mid turned new → ClientsRun old new
 
 -- these turns, and events between them, took the old log to the new one
 pub record Takes (p : Plan) (turns : List ℕ) (old new : List Line) : Type 0 where

@@ -8,3 +8,4 @@ pub mod Turning
 pub mod Starting
 pub mod Right
 pub mod Going
+pub mod Lists

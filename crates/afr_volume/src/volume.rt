@@ -7,6 +7,7 @@ ghost use Rattle.afr_log.specs.Log.{shown_line};
 ghost use Rattle.afr_law_runnable.specs.Runnable.{IsRunnable};
 ghost use Rattle.afr_plan.specs.declared.schedule.Go.{Go};
 ghost use Rattle.afr_model.specs.Actors.{IsActor};
+ghost use Rattle.afr_model.specs.Crawl.{CanCrawl};
 ghost use Rattle.afr_model.specs.Following.{NoneDue};
 ghost use Rattle.afr_model.specs.Report.{started_bricks};
 ghost use Rattle.afr_model.specs.State.{no_plan};
@@ -22,9 +23,10 @@ ghost use Rattle.afr_volume.specs.Turning.{Comes, Turns, due_of, if_due};
 
 use crate::actor::Actor;
 use crate::healers::{
-    HEALERS_FROM, all_healers, is_healer_done, kill_healer, ready_healer, step_healer,
+    HEALERS_FROM, all_healers, is_healer_done, kill_healer, ready_healer,
 };
 use crate::laws::{laws, rule_laws};
+use crate::lists::step_listed;
 use crate::set_up::all_actors;
 use crate::turned::Turned;
 use crate::turns::{answer_of, kill, ready_actor, step_actor};
@@ -44,7 +46,7 @@ use afr_law_promises::{
 use afr_law_quiet::quiet_rounds_are_whole;
 use afr_lines::{Event, Line};
 use afr_log::{Log, ShownLine};
-use afr_object::List;
+use afr_object::{IndexList, List};
 use afr_plan::{Plan, Words};
 use afr_rule::{Candidate, ReadRule, Rules, SourceRule};
 use afr_server::Server;
@@ -69,13 +71,15 @@ pub struct Volume {
     made: u32,
     /// Whether the healers crawl.
     crawl: bool,
+    /// What each round of a crawl was given, once it has asked.
+    lists: Vec<Option<IndexList>>,
 }
 
 impl Model for Volume {
     ghost use Rattle.std.specs.Prelude.{reverse};
     ghost use Rattle.afr_law_picks.specs.Sources.Sources.{sources_of};
     ghost use Rattle.afr_volume.specs.Acting.{picked_of};
-    ghost use Rattle.afr_volume.specs.Keeping.{IsWhole};
+    ghost use Rattle.afr_volume.specs.Lists.{IsListed};
     ghost use Rattle.afr_volume.specs.State.{State};
     ghost use Rattle.afr_volume.specs.Tasks.{tasks_of};
 
@@ -83,7 +87,7 @@ impl Model for Volume {
 
     ghost view = { λ v. record { plan = v.plan; log = reverse v.log.items; sources = sources_of v.healers.items; picked = picked_of v.actors.items; crawl = v.crawl; tasks = tasks_of v.crawl v.healers.items } };
 
-    ghost invariant = { λ v. IsWhole v.crawl v.plan (reverse v.log.items) v.servers v.actors.items v.healers.items v.made };
+    ghost invariant = { λ v. IsListed v.crawl v.plan (reverse v.log.items) v.servers v.actors.items v.healers.items v.made v.lists.items };
 }
 
 impl Volume {
@@ -100,6 +104,7 @@ impl Volume {
             healers: Vec::new(alloc),
             made: 0,
             crawl: false,
+            lists: Vec::new(alloc),
         }
     }
 
@@ -123,6 +128,7 @@ impl Volume {
             healers,
             made: 0,
             crawl: false,
+            lists: Vec::new(self.alloc),
         };
         Ok(())
     }
@@ -231,12 +237,14 @@ impl Volume {
         self.log.make_room()?;
         a_line_keeps_its_source(rule);
         ready_healer(self.alloc, &self.plan, self.crawl, a, &mut self.healers)?;
-        step_healer(
+        step_listed(
+            self.crawl,
             a,
             &mut self.healers,
             &mut self.servers,
             position,
             &mut self.log,
+            &mut self.lists,
             rule,
         )?;
         let waits = self.log.waits_at(position as usize);
@@ -378,6 +386,7 @@ impl Volume {
         ensures few { self.now.plan.shape.n ≤ 5 }
         ensures clients { length self.now.plan.clients ≤ 16 }
         ensures healers { length self.now.plan.healers ≤ 3 }
+        ensures crawls { self.now.crawl ≡ true → CanCrawl self.now.plan }
         ensures orders { (i : ℕ) (go : Go) → slice_get self.now.plan.go i ≡ Some go → IsActor self.now.plan go.actor.0 }
         ensures settled { (a : ℕ) → IsActor self.now.plan a → is_done_in a self.now ≡ true → is_killed a self.now.log ≡ false → work a self.now.log ≡ [] }
         ensures resting { self.now.log ≡ [] → self.now ≡ opened_for self.now.crawl self.now.plan }

@@ -1,13 +1,14 @@
 //! A crawl: the first healer asks for the indexes of its rounds alone, and the others, the workers, are given tasks.
-ghost use Rattle.std.specs.Prelude.{◌≡◌, ◌-◌, [], None, OnErr, OnOk, Some, false, slice_get, slice_set, true};
+ghost use Rattle.std.specs.Prelude.{◌≡◌, ◌-◌, [], None, OnErr, OnOk, Some, false, option_map, slice_get, slice_set, true};
 ghost use Rattle.afr_lines.specs.Work.{is_killed};
-ghost use Rattle.afr_model.specs.Crawl.{CanCrawl, IsGiven, IsWorker};
+ghost use Rattle.afr_model.specs.Crawl.{CanCrawl, IsGiven, IsWorker, list_at, lists_by};
 ghost use Rattle.afr_volume.specs.State.{no_tasks};
 
 use crate::healers::{give_task, rest_first};
 use crate::laws::laws;
 use crate::volume::Volume;
 use afr_base::{ActorId, Gfid, NoMemory, What};
+use afr_object::IndexList;
 
 impl Volume {
     /// From here on the healers crawl.
@@ -19,6 +20,7 @@ impl Volume {
         // A turn that wanted memory may have left a round that heals, of which no line was written.
         rest_first(&mut self.healers);
         self.crawl = true;
+        self.lists = Vec::new(self.alloc);
     }
 
     /// Whether the healers crawl. It takes no memory.
@@ -48,5 +50,16 @@ impl Volume {
             &mut self.healers,
         )?;
         Ok(())
+    }
+    /// The list that a round of the crawler was given, counted from 0; none where that round hasn't ended, or was given none. It
+    /// takes no memory.
+    pub fn crawled(&self, round: u32) -> Option<&IndexList>
+        requires crawl { self.now.crawl ≡ true }
+        ensures { option_map (λ list. list.now) result ≡ list_at round (lists_by self.now.plan self.now.log) }
+    {
+        if round >= self.healers[0].ended {
+            return None;
+        }
+        self.lists[round as usize].as_ref()
     }
 }

@@ -1,0 +1,63 @@
+//! The next item that no worker was given.
+ghost use Rattle.std.specs.Prelude.{◌≡◌, ◌+◌, ◌<◌, ◌≤◌, ◌^◌, None, Some, length, true};
+ghost use Rattle.afr_base.specs.declared.ids.Gfid.{Gfid};
+ghost use Rattle.afr_base.specs.declared.ids.What.{What};
+ghost use Rattle.afr_model.specs.Crawl.{list_at, lists_by};
+ghost use Rattle.afr_workers.specs.Crew.{IsCrew};
+ghost use Rattle.afr_workers.specs.Cursor.{ComesNext, IsLast, IsThere, items_in};
+ghost use Rattle.afr_workers.specs.declared.next.Next.{Next};
+
+use crate::crew::Crew;
+use afr_base::{Gfid, What};
+use afr_volume::Volume;
+
+/// An item, and its place: the crawler's round, and how many items of that round's list come before it.
+#[derive(Clone, Copy)]
+pub(crate) struct Next {
+    pub(crate) round: u32,
+    pub(crate) at: usize,
+    pub(crate) gfid: Gfid,
+    pub(crate) what: What,
+}
+
+/// The item that comes next, if the crawler was given one that wasn't a task yet.
+pub(crate) fn next_item(volume: &Volume, crew: &Crew) -> Option<Next>
+    requires { IsCrew crew.now volume.now }
+    ensures some { (next : Next) → result ≡ Some next → ComesNext (lists_by volume.now.plan volume.now.log) crew.now.round crew.now.at next.round next.at (next.gfid, next.what) }
+    ensures room { (next : Next) → result ≡ Some next → next.at + 1 < 2 ^ 64 }
+    ensures none { result ≡ None → IsLast (lists_by volume.now.plan volume.now.log) crew.now.round crew.now.at }
+{
+    volume.every_line();
+    let rounds = volume.plan().healers.item(0).len();
+    let mut at = crew.at;
+    for round in crew.round..volume.len() {
+        if round as usize >= rounds {
+            return None;
+        }
+        if let Some((gfid, what)) = item_at(volume, round, at) {
+            return Some(Next {
+                round,
+                at,
+                gfid,
+                what,
+            });
+        }
+        at = 0;
+    }
+    None
+}
+
+/// The item at a place of a round's list.
+fn item_at(volume: &Volume, round: u32, at: usize) -> Option<(Gfid, What)>
+    requires { volume.now.crawl ≡ true }
+    ensures some { (item : Gfid × What) → result ≡ Some item → IsThere (lists_by volume.now.plan volume.now.log) round at item }
+    ensures room { (item : Gfid × What) → result ≡ Some item → at + 1 < 2 ^ 64 }
+    ensures none { result ≡ None → length (items_in (list_at round (lists_by volume.now.plan volume.now.log))) ≤ at }
+{
+    let list = volume.crawled(round)?;
+    if at < list.len() {
+        Some(*list.item(at))
+    } else {
+        None
+    }
+}
