@@ -25,10 +25,10 @@ line_there : (log : List Line) (at : ℕ) → at < length log → (line : Line) 
 line_there [] at small = absurd (omega (arith, small))
 line_there (x ∷ log) at small = (get_or (x ∷ log) at x, slice_get-get_or (x ∷ log) at x small)
 
-pub killed_next : (a : ℕ) (log : List Line) (at : ℕ) (here killed : Bool) → at < length log → ((line : Line) → slice_get log at ≡ Some line → here ≡ kills a line) → killed ≡ is_killed a (reverse (take at log)) → (here || killed) ≡ is_killed a (reverse (take (at + 1) log))
-killed_next a log at here killed small k was =
+pub killed_next : (a : ℕ) (log : List Line) (at : ℕ) (before now : Bool) → at < length log → ((line : Line) → slice_get log at ≡ Some line → now ≡ (kills a line || before)) → before ≡ is_killed a (reverse (take at log)) → now ≡ is_killed a (reverse (take (at + 1) log))
+killed_next a log at before now small k was =
     let there = line_there log at small in
-    ap (λ (x : Bool). x || killed) (k there.0 there.1) ∙ ap (λ (x : Bool). kills a there.0 || x) was ∙ ap (is_killed a) (sym (newest log at there.0 there.1))
+    k there.0 there.1 ∙ ap (λ (x : Bool). kills a there.0 || x) was ∙ ap (is_killed a) (sym (newest log at there.0 there.1))
 
 -- where a line is shown as no request, it is the one that stands there
 pub kills_shown : (a : ℕ) (shown line : Line) → Some shown ≡ unasked_line line → kills a shown ≡ kills a line

@@ -1,5 +1,5 @@
 //! How far a crawl has come, beside its volume.
-ghost use Rattle.std.specs.Prelude.{◌≡◌, ◌+◌, ◌==◌, ◌<◌, ◌^◌, if◌then◌else◌, Some, reverse, slice_get};
+ghost use Rattle.std.specs.Prelude.{◌≡◌, ◌+◌, ◌==◌, ◌||◌, ◌<◌, ◌^◌, if◌then◌else◌, Some, reverse, slice_get};
 ghost use Rattle.afr_lines.specs.declared.line.Line.{Line};
 ghost use Rattle.afr_lines.specs.Work.{is_killed, kills};
 ghost use Rattle.afr_workers.specs.Crew.{noted};
@@ -75,9 +75,16 @@ fn was_killed(log: &Log, a: u16) -> bool
 {
     let mut killed = false;
     for at in 0..log.len() {
-        killed = kills_at(log, at, a) || killed;
+        killed = is_killed_by(log, at, a, killed);
     }
     killed
+}
+
+/// Whether the line at this place kills the actor, or one before it did.
+fn is_killed_by(log: &Log, at: usize, a: u16, before: bool) -> bool
+    ensures { (line : Line) → slice_get log.now.items at ≡ Some line → result ≡ (kills a line || before) }
+{
+    kills_at(log, at, a) || before
 }
 
 /// Whether the line at this place kills the actor.

@@ -1,11 +1,8 @@
 //! The next item that no worker was given.
-ghost use Rattle.std.specs.Prelude.{◌≡◌, ◌+◌, ◌<◌, ◌≤◌, ◌^◌, None, Some, length, true};
-ghost use Rattle.afr_base.specs.declared.ids.Gfid.{Gfid};
-ghost use Rattle.afr_base.specs.declared.ids.What.{What};
+ghost use Rattle.std.specs.Prelude.{◌≡◌, ◌+◌, ◌<◌, ◌≤◌, ◌^◌, IfSome, None, length, true};
 ghost use Rattle.afr_model.specs.Crawl.{list_at, lists_by};
 ghost use Rattle.afr_workers.specs.Crew.{IsCrew};
 ghost use Rattle.afr_workers.specs.Cursor.{ComesNext, IsLast, IsThere, items_in};
-ghost use Rattle.afr_workers.specs.declared.next.Next.{Next};
 
 use crate::crew::Crew;
 use afr_base::{Gfid, What};
@@ -23,8 +20,8 @@ pub(crate) struct Next {
 /// The item that comes next, if the crawler was given one that wasn't a task yet.
 pub(crate) fn next_item(volume: &Volume, crew: &Crew) -> Option<Next>
     requires { IsCrew crew.now volume.now }
-    ensures some { (next : Next) → result ≡ Some next → ComesNext (lists_by volume.now.plan volume.now.log) crew.now.round crew.now.at next.round next.at (next.gfid, next.what) }
-    ensures room { (next : Next) → result ≡ Some next → next.at + 1 < 2 ^ 64 }
+    ensures some { IfSome result (λ next. ComesNext (lists_by volume.now.plan volume.now.log) crew.now.round crew.now.at next.round next.at (next.gfid, next.what)) }
+    ensures room { IfSome result (λ next. next.at + 1 < 2 ^ 64) }
     ensures none { result ≡ None → IsLast (lists_by volume.now.plan volume.now.log) crew.now.round crew.now.at }
 {
     volume.every_line();
@@ -34,15 +31,17 @@ pub(crate) fn next_item(volume: &Volume, crew: &Crew) -> Option<Next>
         if round as usize >= rounds {
             return None;
         }
-        if let Some((gfid, what)) = item_at(volume, round, at) {
-            return Some(Next {
-                round,
-                at,
-                gfid,
-                what,
-            });
+        match item_at(volume, round, at) {
+            Some((gfid, what)) => {
+                return Some(Next {
+                    round,
+                    at,
+                    gfid,
+                    what,
+                });
+            }
+            None => at = 0,
         }
-        at = 0;
     }
     None
 }
@@ -50,8 +49,8 @@ pub(crate) fn next_item(volume: &Volume, crew: &Crew) -> Option<Next>
 /// The item at a place of a round's list.
 fn item_at(volume: &Volume, round: u32, at: usize) -> Option<(Gfid, What)>
     requires { volume.now.crawl ≡ true }
-    ensures some { (item : Gfid × What) → result ≡ Some item → IsThere (lists_by volume.now.plan volume.now.log) round at item }
-    ensures room { (item : Gfid × What) → result ≡ Some item → at + 1 < 2 ^ 64 }
+    ensures some { IfSome result (λ item. IsThere (lists_by volume.now.plan volume.now.log) round at item) }
+    ensures room { IfSome result (λ item. at + 1 < 2 ^ 64) }
     ensures none { result ≡ None → length (items_in (list_at round (lists_by volume.now.plan volume.now.log))) ≤ at }
 {
     let list = volume.crawled(round)?;

@@ -6,11 +6,11 @@ use Rattle.afr_workers.specs.Crew.{IsCrew, IsStill, Leads}
 use Rattle.afr_workers.proofs.PassLemmas.{leads_then, same_leads, still_then, task_still, turn_full, turn_kept, turn_leads, worker_actor}
 use Rattle.afr_workers.proofs.turns.take_task.Goals as goal
 
-pub turn-turned-requires-clause-actor : goal.turn-turned-requires-clause-actor
-turn-turned-requires-clause-actor g c = worker_actor c.give.new.volume.plan c.args.a.0 c.give.ensures.crew.can c.requires.worker
+pub turn-requires-clause-actor : goal.turn-requires-clause-actor
+turn-requires-clause-actor g c = worker_actor c.give.new.volume.plan c.args.a.0 c.give.ensures.crew.can c.requires.worker
 
-pub turn-turned-requires-clause-none : goal.turn-turned-requires-clause-none
-turn-turned-requires-clause-none g c = rw (c.give.ensures.plan, c.give.ensures.log) c.in_ok-come.ensures.none
+pub turn-requires-clause-none : goal.turn-requires-clause-none
+turn-requires-clause-none g c = rw (c.give.ensures.plan, c.give.ensures.log) c.in_ok-come.ensures.none
 
 pub returns-in_err-give-clause-leads : goal.returns-in_err-give-clause-leads
 returns-in_err-give-clause-leads g c = leads_then c.args.volume.now c.come.new.volume c.give.new.volume c.come.ensures.leads (same_leads c.come.new.volume c.give.new.volume c.give.ensures.plan c.give.ensures.log)

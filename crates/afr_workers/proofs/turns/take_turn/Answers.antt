@@ -6,8 +6,8 @@ use Rattle.afr_workers.specs.Crew.{IsCrew, IsStill, Leads}
 use Rattle.afr_workers.proofs.PassLemmas.{leads_then, still_then, turn_full, turn_kept, turn_leads, turn_still}
 use Rattle.afr_workers.proofs.turns.take_turn.Goals as goal
 
-pub turn-turned-requires-clause-actor : goal.turn-turned-requires-clause-actor
-turn-turned-requires-clause-actor g c = rw c.come.ensures.leads.plan c.requires.actor
+pub turn-requires-clause-actor : goal.turn-requires-clause-actor
+turn-requires-clause-actor g c = rw c.come.ensures.leads.plan c.requires.actor
 
 pub returns-in_err-turned-clause-crew : goal.returns-in_err-turned-clause-crew
 returns-in_err-turned-clause-crew g c = subst (IsCrew c.come.new.crew) (sym c.in_err-turned.ensures.err) c.come.ensures.crew
