@@ -81,11 +81,11 @@ given_end p a said log first older who begun =
 
 -- ---- what its line is
 -- it keeps to its round
-crawls : (p : Plan) (line : Line) (log : List Line) → length p.clients ≤ 16 → KeepsToTask true p 17 line log → (b : BrickId) × (slice_get (rounds_of p 17) (ended 17 log) ≡ Some b) × KeepsToCrawl b line (work 17 log)
-crawls p line log few (ToCommand c is k) = absurd (no_script p 17 (ended 17 log) c few (omega arith) is)
-crawls p line log few (ToRound plain low b is k) = absurd (cc plain)
-crawls p line log few (ToCrawl crawls who b is k) = (b, is, k)
-crawls p line log few (ToItem crawls low item given of) = absurd (omega (arith, low))
+round_line : (p : Plan) (line : Line) (log : List Line) → length p.clients ≤ 16 → KeepsToTask true p 17 line log → (b : BrickId) × (slice_get (rounds_of p 17) (ended 17 log) ≡ Some b) × KeepsToCrawl b line (work 17 log)
+round_line p line log few (ToCommand c is k) = absurd (no_script p 17 (ended 17 log) c few (omega arith) is)
+round_line p line log few (ToRound plain low b is k) = absurd (cc plain)
+round_line p line log few (ToCrawl crawls who b is k) = (b, is, k)
+round_line p line log few (ToItem crawls low item given of) = absurd (omega (arith, low))
 
 none_due : (w : Work) (heal : Gfid × Kind) → due_in [] w ≡ Some heal → ⊥
 none_due w heal e = cc e
@@ -103,7 +103,7 @@ some_server (s ∷ servers) b small = (get_or (s ∷ servers) b s, slice_get-get
 module _ (p : Plan) (a : ActorId) (log : List Line) (servers new : List Serving) (x y : Healer) (line : Line) (lists : Lists) (shown : Option (List (Gfid × What))) (who : a.0 ≡ 17) (few : length p.clients ≤ 16) (bricks : (k : ℕ) (b : BrickId) → slice_get (rounds_of p 17) k ≡ Some b → b.0 < p.shape.n)
     (served : AreServed p log servers) (k : RoundKeeps true p a log line y servers new) (s : Stepped IsAnswered a (length log) x y servers new line) (shows : ShowsNext servers shown (next_of s.round)) (was : reverse lists ≡ given_lists p log) where
   round : (b : BrickId) × (slice_get (rounds_of p 17) (ended 17 log) ≡ Some b) × KeepsToCrawl b line (work 17 log)
-  round = crawls p line log few (subst (λ (c : ℕ). KeepsToTask true p c line log) who k.keeps)
+  round = round_line p line log few (subst (λ (c : ℕ). KeepsToTask true p c line log) who k.keeps)
 
   module _ (b : BrickId) (told : Told) (took : Bool) (none : work 17 log ≡ []) (showing : Serving) (there : slice_get servers b.0 ≡ Some showing) (is : shown ≡ Some (index_of showing.copies.objects)) where
     abbrev index_line : Line
@@ -202,3 +202,16 @@ list_found p log lists k list was small is = ap (option_and_then (λ (l : Option
 
 pub none_at : (p : Plan) (log : List Line) (k : ℕ) → ended 17 log ≤ k → None ≡ list_at k (lists_by p log)
 none_at p log k past = sym (ap (option_and_then (λ (l : Option (List (Gfid × What))). l)) (no_list p log k past))
+
+-- ---- what a brick would give now
+pub shows_none : (servers : List Serving) (n : Next) → ((b : BrickId) (asked : Request) → n ≡ next.Ask b asked → ⊥) → ShowsNext servers None n
+shows_none servers (next.Ask b asked) other = absurd (other b asked refl)
+shows_none servers n other = refl
+
+pub shows_past : (servers : List Serving) (n : Next) (b : BrickId) (asked : Request) → n ≡ next.Ask b asked → slice_get servers b.0 ≡ None → ShowsNext servers None n
+shows_past servers n b asked is none = subst (λ (m : Next). ShowsNext servers None m) (sym is) (λ s there. absurd (let both : None ≡ Some s = sym none ∙ there in cc both))
+
+pub shows_asked : (servers : List Serving) (n : Next) (b : BrickId) (asked : Request) (server : Serving) (list : List (Gfid × What)) → n ≡ next.Ask b asked → slice_get servers b.0 ≡ Some server → list ≡ index_of server.copies.objects → ShowsNext servers (Some list) n
+shows_asked servers n b asked server list is there same =
+    subst (λ (m : Next). ShowsNext servers (Some list) m) (sym is)
+    (λ s here. let both : Some server ≡ Some s = sym there ∙ here in let one : server ≡ s = cc both in ap Some (same ∙ ap (λ (x : Serving). index_of x.copies.objects) one))

@@ -62,14 +62,28 @@ fn coming_list(
     if !is_crawler(crawl, a) {
         return Ok(None);
     }
-    let Some(brick) = first_asks(healers) else {
+    match first_asks(healers) {
+        Some(brick) => list_of(brick, servers, lists),
+        None => Ok(None),
+    }
+}
+
+/// What this brick's index has now, if there is such a brick, and room to keep it.
+fn list_of(
+    brick: BrickId,
+    servers: &Servers,
+    lists: &mut Vec<Option<IndexList>>,
+) -> Result<Option<IndexList>, NoMemory>
+    ensures items { lists.new.items ≡ lists.old.items }
+    ensures room { IfOk result (λ shown. is_some shown ≡ true → vec_len lists.new < vec_capacity lists.new) }
+    ensures shows { IfOk result (λ shown. (n : Next) (asked : Request) → n ≡ Next.Ask brick asked → ShowsNext servers.now shown n) }
+{
+    let servers = servers.servers();
+    if brick.0 as usize >= servers.len() {
         return Ok(None);
-    };
-    let Some(server) = servers.servers().get(brick.0 as usize) else {
-        return Ok(None);
-    };
+    }
     lists.try_reserve(1)?;
-    let shown = server.brick().index()?;
+    let shown = servers[brick.0 as usize].brick().index()?;
     Ok(Some(shown))
 }
 
