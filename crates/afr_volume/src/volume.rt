@@ -22,9 +22,7 @@ ghost use Rattle.afr_volume.specs.Tasks.{is_done_in};
 ghost use Rattle.afr_volume.specs.Turning.{Comes, Turns, due_of, if_due};
 
 use crate::actor::Actor;
-use crate::healers::{
-    HEALERS_FROM, all_healers, is_healer_done, kill_healer, ready_healer,
-};
+use crate::healers::{HEALERS_FROM, all_healers, is_healer_done, kill_healer, ready_healer};
 use crate::laws::{laws, rule_laws};
 use crate::lists::step_listed;
 use crate::set_up::all_actors;

@@ -24,7 +24,7 @@ pub invariant_of-self-2 : goal.invariant_of-self-2
 invariant_of-self-2 c = record {
   given = c.self.invariant.given;
   whole = assigned_whole c.laws.ensures.rounds c.self.inside.plan c.args.a.0 (reverse c.self.inside.log.items) c.self.inside.servers c.self.inside.actors.items c.self.inside.healers.items c.give_task.new.healers.items c.self.inside.made (c.args.gfid, c.args.what) (picked_of c.self.inside.actors.items) c.requires.worker
-    (rw (← c.self.view_is) at c.requires.given) c.in_ok-give_task.ensures.ok c.self.inside.crawl (rw (← c.self.view_is) at c.requires.crawl) c.self.invariant.whole (rw (← c.self.view_is) at c.requires.idle);
+      (rw (← c.self.view_is) at c.requires.given) c.in_ok-give_task.ensures.ok c.self.inside.crawl (rw (← c.self.view_is) at c.requires.crawl) c.self.invariant.whole (rw (← c.self.view_is) at c.requires.idle);
 }
 
 pub returns-clause-ok : goal.returns-clause-ok

@@ -31,14 +31,14 @@ pub invariant_of-self-in_err-step_actor : goal.invariant_of-self-in_err-step_act
 invariant_of-self-in_err-step_actor g c = record {
   given = rw (c.in_err-step_actor.ensures.err.2, c.in_ok-make_room.ensures.items) c.self.invariant.given;
   whole = rw (c.in_err-step_actor.ensures.err.2, c.in_ok-make_room.ensures.items, c.in_err-step_actor.ensures.err.0, c.in_err-step_actor.ensures.err.1)
-    (record {
-      crawling = c.self.invariant.whole.crawling;
-      kept = ready_volume c.laws.ensures.turns c.laws.ensures.begins c.self.inside.plan c.args.a c.self.inside.log.items c.self.inside.actors.items c.ready_actor.new.actors.items c.self.inside.servers c.self.inside.made c.self.invariant.whole.kept c.requires.client (rw (← c.self.view_is) at c.requires.actor)
-          (few_items c.self.inside.plan c.self.inside.log.items (rw (← c.self.view_is) at c.requires.room)) c.in_ok-ready_actor.ensures.ok;
-      healing = c.self.invariant.whole.healing;
-      pacing = ready_paced c.laws.ensures.paces c.laws.ensures.turns c.laws.ensures.begins c.self.inside.plan c.args.a c.self.inside.log.items c.self.inside.actors.items c.ready_actor.new.actors.items c.self.inside.servers c.self.inside.made c.self.invariant.whole.kept c.requires.client (rw (← c.self.view_is) at c.requires.actor)
-          (few_items c.self.inside.plan c.self.inside.log.items (rw (← c.self.view_is) at c.requires.room)) c.in_ok-ready_actor.ensures.ok c.self.inside.healers.items c.self.invariant.whole.pacing;
-    });
+      (record {
+        crawling = c.self.invariant.whole.crawling;
+        kept = ready_volume c.laws.ensures.turns c.laws.ensures.begins c.self.inside.plan c.args.a c.self.inside.log.items c.self.inside.actors.items c.ready_actor.new.actors.items c.self.inside.servers c.self.inside.made c.self.invariant.whole.kept c.requires.client (rw (← c.self.view_is) at c.requires.actor)
+            (few_items c.self.inside.plan c.self.inside.log.items (rw (← c.self.view_is) at c.requires.room)) c.in_ok-ready_actor.ensures.ok;
+        healing = c.self.invariant.whole.healing;
+        pacing = ready_paced c.laws.ensures.paces c.laws.ensures.turns c.laws.ensures.begins c.self.inside.plan c.args.a c.self.inside.log.items c.self.inside.actors.items c.ready_actor.new.actors.items c.self.inside.servers c.self.inside.made c.self.invariant.whole.kept c.requires.client (rw (← c.self.view_is) at c.requires.actor)
+            (few_items c.self.inside.plan c.self.inside.log.items (rw (← c.self.view_is) at c.requires.room)) c.in_ok-ready_actor.ensures.ok c.self.inside.healers.items c.self.invariant.whole.pacing;
+      });
 }
 
 pub invariant_of-self-2 : goal.invariant_of-self-2
@@ -51,12 +51,12 @@ invariant_of-self-2 g c =
     record {
       given = lists_stay c.self.inside.crawl c.self.inside.plan c.args.a.0 c.in_ok-step_actor.ensures.ok.line (reverse c.self.inside.log.items) (reverse c.step_actor.new.log.items) c.self.inside.lists.items c.requires.client t.own t.log c.self.invariant.given;
       whole = whole c.laws.ensures.turns c.laws.ensures.begins c.self.inside.plan c.args.a c.self.inside.log.items c.self.inside.actors.items c.ready_actor.new.actors.items c.self.inside.servers c.self.inside.made c.self.invariant.whole.kept c.requires.client (rw (← c.self.view_is) at c.requires.actor)
-    (few_items c.self.inside.plan c.self.inside.log.items (rw (← c.self.view_is) at c.requires.room)) c.in_ok-ready_actor.ensures.ok
-    c.laws.ensures.rounds c.self.inside.healers.items c.step_actor.new.log.items c.step_actor.new.servers c.step_actor.new.actors.items c.in_ok-step_actor.ensures.ok.line
-    t c.self.invariant.whole.healing
-    (turn_paced c.laws.ensures.paces c.laws.ensures.turns c.laws.ensures.begins c.self.inside.plan c.args.a c.self.inside.log.items c.self.inside.actors.items c.ready_actor.new.actors.items c.self.inside.servers c.self.inside.made c.self.invariant.whole.kept c.requires.client (rw (← c.self.view_is) at c.requires.actor)
-    (few_items c.self.inside.plan c.self.inside.log.items (rw (← c.self.view_is) at c.requires.room)) c.in_ok-ready_actor.ensures.ok c.self.inside.healers.items c.self.invariant.whole.pacing c.len-position.result c.step_actor.new.log.items c.step_actor.new.actors.items c.step_actor.new.servers c.in_ok-step_actor.ensures.ok.line
-    (grind (arith, nat_tests, c.len-position.ensures)) (any_steps g.G.Fn c.args.rule.now c.rule_laws.ensures _ _ _ _ _ _ _ c.in_ok-step_actor.ensures.ok.is_so) (rw (← c.in_ok-make_room.ensures.items) c.in_ok-step_actor.ensures.ok.added)) c.self.invariant.whole.crawling;
+          (few_items c.self.inside.plan c.self.inside.log.items (rw (← c.self.view_is) at c.requires.room)) c.in_ok-ready_actor.ensures.ok
+          c.laws.ensures.rounds c.self.inside.healers.items c.step_actor.new.log.items c.step_actor.new.servers c.step_actor.new.actors.items c.in_ok-step_actor.ensures.ok.line
+          t c.self.invariant.whole.healing
+          (turn_paced c.laws.ensures.paces c.laws.ensures.turns c.laws.ensures.begins c.self.inside.plan c.args.a c.self.inside.log.items c.self.inside.actors.items c.ready_actor.new.actors.items c.self.inside.servers c.self.inside.made c.self.invariant.whole.kept c.requires.client (rw (← c.self.view_is) at c.requires.actor)
+          (few_items c.self.inside.plan c.self.inside.log.items (rw (← c.self.view_is) at c.requires.room)) c.in_ok-ready_actor.ensures.ok c.self.inside.healers.items c.self.invariant.whole.pacing c.len-position.result c.step_actor.new.log.items c.step_actor.new.actors.items c.step_actor.new.servers c.in_ok-step_actor.ensures.ok.line
+          (grind (arith, nat_tests, c.len-position.ensures)) (any_steps g.G.Fn c.args.rule.now c.rule_laws.ensures _ _ _ _ _ _ _ c.in_ok-step_actor.ensures.ok.is_so) (rw (← c.in_ok-make_room.ensures.items) c.in_ok-step_actor.ensures.ok.added)) c.self.invariant.whole.crawling;
     }
 
 pub returns-clause-ok : goal.returns-clause-ok

@@ -19,7 +19,7 @@ pub invariant_of-self-2 : goal.invariant_of-self-2
 invariant_of-self-2 c = record {
   given = lists_happen c.self.inside.crawl c.self.inside.plan c.self.inside.log.items c.add.new.self.items c.in-Some.event c.self.inside.lists.items (rw (← c.in_ok-make_room.ensures.items) c.add.ensures) c.self.invariant.given;
   whole = whole_happened c.laws.ensures.paces c.laws.ensures.rounds c.laws.ensures.events c.self.inside.plan c.self.inside.log.items c.add.new.self.items c.self.inside.servers c.event.new.self c.self.inside.actors.items c.kill.new.actors.items c.self.inside.healers.items c.kill_healer.new.healers.items c.self.inside.made c.in-Some.event
-    c.self.invariant.whole c.fits_its_types.ensures (rw (← c.self.view_is) at (sym c.in-Some.ensures.value)) c.event.ensures c.kill.ensures c.kill_healer.ensures (rw (← c.in_ok-make_room.ensures.items) c.add.ensures);
+      c.self.invariant.whole c.fits_its_types.ensures (rw (← c.self.view_is) at (sym c.in-Some.ensures.value)) c.event.ensures c.kill.ensures c.kill_healer.ensures (rw (← c.in_ok-make_room.ensures.items) c.add.ensures);
 }
 
 pub returns-clause-ok : goal.returns-clause-ok

@@ -29,8 +29,8 @@ pub invariant_of-self-in_err-step_listed : goal.invariant_of-self-in_err-step_li
 invariant_of-self-in_err-step_listed g c = record {
   given = rw (c.in_err-step_listed.ensures.err.3, c.in_err-step_listed.ensures.err.2, c.in_ok-make_room.ensures.items) c.self.invariant.given;
   whole = rw (c.in_err-step_listed.ensures.err.2, c.in_ok-make_room.ensures.items, c.in_err-step_listed.ensures.err.0, c.in_err-step_listed.ensures.err.1)
-    (ready_whole c.laws.ensures.rounds c.laws.ensures.paces c.self.inside.plan c.args.a c.self.inside.log.items c.self.inside.actors.items c.self.inside.healers.items c.ready_healer.new.healers.items c.self.inside.servers c.self.inside.made c.self.invariant.whole c.requires.healer (rw (← c.self.view_is) at c.requires.actor)
-    (few_items c.self.inside.plan c.self.inside.log.items (rw (← c.self.view_is) at c.requires.room)) c.in_ok-ready_healer.ensures.ok);
+      (ready_whole c.laws.ensures.rounds c.laws.ensures.paces c.self.inside.plan c.args.a c.self.inside.log.items c.self.inside.actors.items c.self.inside.healers.items c.ready_healer.new.healers.items c.self.inside.servers c.self.inside.made c.self.invariant.whole c.requires.healer (rw (← c.self.view_is) at c.requires.actor)
+      (few_items c.self.inside.plan c.self.inside.log.items (rw (← c.self.view_is) at c.requires.room)) c.in_ok-ready_healer.ensures.ok);
 }
 
 pub invariant_of-self-2 : goal.invariant_of-self-2
@@ -44,7 +44,7 @@ invariant_of-self-2 g c =
       whole = t.whole;
       given = subst (λ (log : List Line). c.self.inside.crawl ≡ true → reverse c.step_listed.new.lists.items ≡ given_lists c.self.inside.plan log) (sym t.log)
           (lists_after c.laws.ensures.rounds c.laws.ensures.paces c.self.inside.plan c.args.a c.self.inside.log.items c.self.inside.actors.items c.self.inside.healers.items c.ready_healer.new.healers.items c.self.inside.servers c.self.inside.made c.self.invariant.whole c.requires.healer (rw (← c.self.view_is) at c.requires.actor)
-    (few_items c.self.inside.plan c.self.inside.log.items (rw (← c.self.view_is) at c.requires.room)) c.in_ok-ready_healer.ensures.ok c.len-position.result c.step_listed.new.healers.items c.step_listed.new.servers c.in_ok-step_listed.ensures.ok.line c.self.inside.lists.items c.step_listed.new.lists.items
+          (few_items c.self.inside.plan c.self.inside.log.items (rw (← c.self.view_is) at c.requires.room)) c.in_ok-ready_healer.ensures.ok c.len-position.result c.step_listed.new.healers.items c.step_listed.new.servers c.in_ok-step_listed.ensures.ok.line c.self.inside.lists.items c.step_listed.new.lists.items
           (grind (arith, nat_tests, c.len-position.ensures)) (answered_at _ _ _ _ _ _ _ _ _ c.in_ok-step_listed.ensures.ok.is_so.0) c.in_ok-step_listed.ensures.ok.is_so.1 c.self.invariant.given);
     }
 

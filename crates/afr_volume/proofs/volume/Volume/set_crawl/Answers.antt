@@ -11,7 +11,7 @@ rest_first-requires c = omega (arith, c.self.invariant.whole.healing.same, (rw (
 pub invariant_of-self : goal.invariant_of-self
 invariant_of-self c = record {
   whole = crawling_whole c.self.inside.plan (reverse c.self.inside.log.items) c.self.inside.servers c.self.inside.actors.items c.self.inside.healers.items c.rest_first.new.healers.items c.self.inside.made (picked_of c.self.inside.actors.items) (rw (← c.self.view_is) at c.requires.healers) c.self.invariant.whole
-    (rw (← c.self.view_is) at c.requires.none) c.rest_first.ensures;
+      (rw (← c.self.view_is) at c.requires.none) c.rest_first.ensures;
   given = λ crawls. none_given c.self.inside.plan (reverse c.self.inside.log.items) c.new.result.items c.new.ensures.items (rw (← c.self.view_is) at c.requires.none);
 }
 
