@@ -9,15 +9,16 @@ use Rattle.afr_lines.specs.declared.line.Line.TheVariants.{Ask, Begin, End, Even
 use Rattle.afr_model.specs.Actors.{rounds_of, works_of}
 use Rattle.afr_model.specs.Crawl.{CanCrawl, IsTried, IsWorker, item_by, items_of, lists_by, tasks_by, with_item}
 use Rattle.afr_plan.specs.declared.plan.Plan.{Plan}
+use Rattle.afr_tasks.proofs.Balances.{weigh_append}
 use Rattle.afr_tasks.specs.Balance.{weigh}
 use Rattle.afr_volume.specs.State.{State, opened_for}
 use Rattle.afr_volume.specs.Tasks.{has_task, is_done_in, task_by}
 use Rattle.afr_volume.specs.Turning.{AddsLine, Comes, IsTaskLine}
-use Rattle.afr_workers.specs.Crew.{IsCrew, IsTriedIn, TakesNone, first_crew, noted, tasks_given}
-use Rattle.afr_workers.specs.Cursor.{ComesNext, IsLast, IsPlace, Item, Lists, weigh_before}
+use Rattle.afr_workers.specs.Crew.{AreGiven, IsCrew, IsPlaced, first_crew, noted, tasks_given}
+use Rattle.afr_workers.specs.Cursor.{ComesNext, IsLast, IsPlace, Item, items_before}
 use Rattle.afr_workers.specs.declared.crew.Crew.{Crew}
 use Rattle.afr_workers.proofs.GivenLemmas.{lists_grow}
-use Rattle.afr_workers.proofs.PlaceLemmas.{Grows, before_stays, place_next, place_stays, sum_is, weigh_placed}
+use Rattle.afr_workers.proofs.PlaceLemmas.{Grows, Stays, before_next, before_stays, place_next, place_stays, sum_is, weigh_given}
 
 -- ---- a line of an actor
 -- it kills nobody
@@ -109,19 +110,33 @@ busy_left a s item crawls worker alive is = left (is_killed a s.log) (has_task a
     some = let low = worker.0 in both s.crawl (nat_lt 17 a) (is_some (task_by a s)) crawls (grind (arith, nat_tests, low)) (ap (λ (task : Option Item). is_some task) (task_is a s (Some item) is))
 
 -- one that lives and is done is at no task
-pub idle_of : (a : ℕ) (s : State) (crew : Crew) → IsCrew crew s → IsWorker a → is_killed a s.log ≡ false → is_done_in a s ≡ true → slice_get s.tasks (a - 18) ≡ Some None
+pub idle_of : (a : ℕ) (s : State) (crew : Crew) → IsPlaced crew s → IsWorker a → is_killed a s.log ≡ false → is_done_in a s ≡ true → slice_get s.tasks (a - 18) ≡ Some None
 idle_of a s crew k worker alive done = by (k.there a worker).0 (k.there a worker).1
   where
     by : (task : Option Item) → slice_get s.tasks (a - 18) ≡ Some task → slice_get s.tasks (a - 18) ≡ Some None
     by None is = is
     by (Some item) is = absurd (let left = busy_left a s item k.crawls worker alive is in cc (sym left ∙ done))
 
--- ---- what a line leaves
+-- ---- what a line and an event leave
+-- the lists grow, both workers have the tasks that they were given, and who lives now lived before
+pub record Proceeds (old new : State) : Type 0 where
+  pub lists : Grows (lists_by old.plan old.log) (lists_by new.plan new.log)
+  pub given : (c : ℕ) → IsWorker c → tasks_given c new ≡ tasks_given c old
+  pub lives : (c : ℕ) → is_killed c new.log ≡ false → is_killed c old.log ≡ false
+
+pub given_stays : (old new : State) (round at : ℕ) → Proceeds old new → IsPlace (lists_by old.plan old.log) round at → AreGiven round at old → AreGiven round at new
+given_stays old new round at p place given = λ two three worth.
+    let left = ap (weigh worth) (p.given 18 (omega arith, omega arith)) in
+    let right = ap (weigh worth) (p.given 19 (omega arith, omega arith)) in
+    let was = given (p.lives 18 two) (p.lives 19 three) worth in
+    let stays = ap (weigh worth) (before_stays _ _ round at p.lists place) in
+    omega (arith, left, right, was, stays)
+
 record KeepsGiven (c : ℕ) (old new : State) : Type 0 where
   there : (task : Option Item) × (slice_get new.tasks (c - 18) ≡ Some task)
   given : tasks_given c new ≡ tasks_given c old
 
-module _ (a : ActorId) (old new : State) (waits : Option ActorId) (h : AddsLine a old waits new) (crew : Crew) (k : IsCrew crew old) where
+module _ (a : ActorId) (old new : State) (waits : Option ActorId) (h : AddsLine a old waits new) (crew : Crew) (k : IsPlaced crew old) where
   -- another worker has the tasks that it had
   others_keep : (c : ℕ) → IsWorker c → a.0 ≢ c → KeepsGiven c old new
   others_keep c worker apart =
@@ -177,41 +192,60 @@ module _ (a : ActorId) (old new : State) (waits : Option ActorId) (h : AddsLine 
       let added : new.log ≡ h.line ∷ old.log = h.added in
       rw (plan, added) (lists_grow old.plan h.line old.log)
 
-  second : IsWorker 18
-  second = (omega arith, omega arith)
+  pub line_proceeds : Proceeds old new
+  line_proceeds = record {
+    lists = grows;
+    given = λ c worker. (keeps_given c worker).given;
+    lives = λ c alive. sym (ap (is_killed c) h.added ∙ still_lives a.0 c h.line old.log h.own) ∙ alive;
+  }
 
-  third : IsWorker 19
-  third = (omega arith, omega arith)
-
-  pub line_kept : IsCrew crew new
-  line_kept = record {
+  pub line_placed : IsPlaced crew new
+  line_placed = record {
     crawls = h.crawl ∙ k.crawls;
     can = subst CanCrawl (sym h.plan) k.can;
     there = λ c worker. (keeps_given c worker).there;
     place = place_stays _ _ crew.round crew.at grows k.place;
-    given = λ worth.
-        let left = ap (weigh worth) (keeps_given 18 second).given in
-        let right = ap (weigh worth) (keeps_given 19 third).given in
-        let was = k.given worth in
-        let before = before_stays worth _ _ crew.round crew.at grows k.place in
-        omega (arith, left, right, was, before);
     second = k.second ∙ sym (ap (is_killed 18) h.added ∙ still_lives a.0 18 h.line old.log h.own);
     third = k.third ∙ sym (ap (is_killed 19) h.added ∙ still_lives a.0 19 h.line old.log h.own);
   }
 
--- ---- what an event leaves
-pub event_kept : (old new : State) (h : Comes old new) (crew : Crew) → IsCrew crew old → IsCrew (noted h.event crew) new
-event_kept old new h crew k =
-    subst (λ (s : State). IsCrew (noted h.event crew) s) (sym h.added)
+pub line_kept : (a : ActorId) (old new : State) (waits : Option ActorId) → AddsLine a old waits new → (crew : Crew) → IsCrew crew old → IsCrew crew new
+line_kept a old new waits h crew k = record {
+  placed = line_placed a old new waits h crew k.placed;
+  given = given_stays old new crew.round crew.at (line_proceeds a old new waits h crew k.placed) k.placed.place k.given;
+}
+
+-- an event gives nothing
+pub event_proceeds : (old new : State) → Comes old new → Proceeds old new
+event_proceeds old new h =
+    subst (λ (s : State). Proceeds old s) (sym h.added)
+    (record {
+      lists = Stays;
+      given = λ c worker. refl;
+      lives = λ c alive. lived (kills c (Event h.event)) (is_killed c old.log) alive;
+    })
+  where
+    lived : (x y : Bool) → (x || y) ≡ false → y ≡ false
+    lived true y e = absurd (cc e)
+    lived false y e = e
+
+pub event_placed : (old new : State) (h : Comes old new) (crew : Crew) → IsPlaced crew old → IsPlaced (noted h.event crew) new
+event_placed old new h crew k =
+    subst (λ (s : State). IsPlaced (noted h.event crew) s) (sym h.added)
     (record {
       crawls = k.crawls;
       can = k.can;
       there = k.there;
       place = k.place;
-      given = k.given;
       second = ap (λ (dead : Bool). kills 18 (Event h.event) || dead) k.second;
       third = ap (λ (dead : Bool). kills 19 (Event h.event) || dead) k.third;
     })
+
+pub event_kept : (old new : State) (h : Comes old new) (crew : Crew) → IsCrew crew old → IsCrew (noted h.event crew) new
+event_kept old new h crew k = record {
+  placed = event_placed old new h crew k.placed;
+  given = given_stays old new crew.round crew.at (event_proceeds old new h) k.placed.place k.given;
+}
 
 -- ---- what an assignment leaves
 set_here : (l : List (Option Item)) (i : ℕ) (x y : Option Item) → slice_get l i ≡ Some x → slice_get (slice_set l i y) i ≡ Some y
@@ -227,21 +261,32 @@ set_other (z ∷ l) zero (suc j) y apart = refl
 set_other (z ∷ l) (suc i) zero y apart = refl
 set_other (z ∷ l) (suc i) (suc j) y apart = set_other l i j y (λ same. apart (ap suc same))
 
+-- an item more comes before the next one
+pub next_placed : (crew : Crew) (s : State) (round at : ℕ) (item : Item) → ComesNext (lists_by s.plan s.log) crew.round crew.at round at item → IsPlaced crew s → IsPlaced (record crew { round = round; at = at + 1 }) s
+next_placed crew s round at item next k = record {
+  crawls = k.crawls;
+  can = k.can;
+  there = k.there;
+  place = place_next (lists_by s.plan s.log) crew.round crew.at round at item next;
+  second = k.second;
+  third = k.third;
+}
+
 module _ (a : ℕ) (old : State) (item : Item) (worker : IsWorker a) (is : slice_get old.tasks (a - 18) ≡ Some None) where
   abbrev assigned : State
   assigned = record old { tasks = slice_set old.tasks (a - 18) (Some item) }
 
-  assigned_own : (worth : Item → ℕ) → weigh worth (tasks_given a assigned) ≡ weigh worth (tasks_given a old) + worth item
-  assigned_own worth =
+  pub assigned_own : tasks_given a assigned ≡ item ∷ tasks_given a old
+  assigned_own =
       let now : tasks_given a assigned ≡ item ∷ tasks_by a old.log = ap (λ (task : Option Item). with_item task (tasks_by a old.log)) (task_is a assigned (Some item) (set_here old.tasks (a - 18) None (Some item) is)) in
       let was : tasks_given a old ≡ tasks_by a old.log = ap (λ (task : Option Item). with_item task (tasks_by a old.log)) (task_is a old None is) in
-      omega (arith, ap (weigh worth) now, ap (weigh worth) was)
+      now ∙ ap (λ (tasks : List Item). item ∷ tasks) (sym was)
 
   there_other : (c : ℕ) → IsWorker c → a ≢ c → slice_get assigned.tasks (c - 18) ≡ slice_get old.tasks (c - 18)
   there_other c other apart = let low = worker.0 in let low_too = other.0 in set_other old.tasks (a - 18) (c - 18) (Some item) (λ e. apart (omega (arith, e, low, low_too)))
 
-  assigned_other : (worth : Item → ℕ) (c : ℕ) → IsWorker c → a ≢ c → weigh worth (tasks_given c assigned) ≡ weigh worth (tasks_given c old)
-  assigned_other worth c other apart = ap (λ (task : Option Item). weigh worth (with_item task (tasks_by c old.log))) (ap present (there_other c other apart))
+  pub assigned_other : (c : ℕ) → IsWorker c → a ≢ c → tasks_given c assigned ≡ tasks_given c old
+  assigned_other c other apart = ap (λ (task : Option Item). with_item task (tasks_by c old.log)) (ap present (there_other c other apart))
 
   assigned_there : ((c : ℕ) → IsWorker c → (task : Option Item) × (slice_get old.tasks (c - 18) ≡ Some task)) → (c : ℕ) → IsWorker c → (task : Option Item) × (slice_get assigned.tasks (c - 18) ≡ Some task)
   assigned_there there c other = by (eqb_tells a c)
@@ -253,35 +298,36 @@ module _ (a : ℕ) (old : State) (item : Item) (worker : IsWorker a) (is : slice
   both_given : (worth : Item → ℕ) → weigh worth (tasks_given 18 assigned) + weigh worth (tasks_given 19 assigned) ≡ weigh worth (tasks_given 18 old) + weigh worth (tasks_given 19 old) + worth item
   both_given worth = by (eqb_tells a 18)
     where
+      own : (c : ℕ) → a ≡ c → weigh worth (tasks_given c assigned) ≡ weigh worth (tasks_given c old) + worth item
+      own c same = subst (λ (b : ℕ). weigh worth (tasks_given b assigned) ≡ weigh worth (tasks_given b old) + worth item) same (let added = ap (weigh worth) assigned_own in omega (arith, added))
+
+      last : a ≢ 18 → a ≡ 19
+      last apart = let low = worker.0 in let high = worker.1 in grind (arith, nat_tests, apart, low, high)
+
       by : ((a == 18) ≡ true) × (a ≡ 18) ⊎ ((a == 18) ≡ false) × (a ≢ 18) → weigh worth (tasks_given 18 assigned) + weigh worth (tasks_given 19 assigned) ≡ weigh worth (tasks_given 18 old) + weigh worth (tasks_given 19 old) + worth item
       by (inl e) =
           let same = e.1 in
-          let own : weigh worth (tasks_given 18 assigned) ≡ weigh worth (tasks_given 18 old) + worth item = subst (λ (c : ℕ). weigh worth (tasks_given c assigned) ≡ weigh worth (tasks_given c old) + worth item) same (assigned_own worth) in
-          let other = assigned_other worth 19 (omega arith, omega arith) (λ f. absurd (omega (arith, f, same))) in
-          omega (arith, own, other)
+          let other = ap (weigh worth) (assigned_other 19 (omega arith, omega arith) (λ f. absurd (omega (arith, f, same)))) in
+          omega (arith, own 18 same, other)
       by (inr e) =
           let apart = e.1 in
-          let low = worker.0 in
-          let high = worker.1 in
-          let same : a ≡ 19 = by_place apart in
-          let own : weigh worth (tasks_given 19 assigned) ≡ weigh worth (tasks_given 19 old) + worth item = subst (λ (c : ℕ). weigh worth (tasks_given c assigned) ≡ weigh worth (tasks_given c old) + worth item) same (assigned_own worth) in
-          let other = assigned_other worth 18 (omega arith, omega arith) apart in
-          omega (arith, own, other)
-        where
-          by_place : a ≢ 18 → a ≡ 19
-          by_place apart = let low = worker.0 in let high = worker.1 in grind (arith, nat_tests, apart, low, high)
+          let other = ap (weigh worth) (assigned_other 18 (omega arith, omega arith) apart) in
+          omega (arith, own 19 (last apart), other)
+
+  pub assigned_placed : (new : State) (crew : Crew) → new ≡ assigned → IsPlaced crew old → IsPlaced crew new
+  assigned_placed new crew same k =
+      subst (λ (s : State). IsPlaced crew s) (sym same) (record { crawls = k.crawls; can = k.can; there = assigned_there k.there; place = k.place; second = k.second; third = k.third })
 
   pub assigned_kept : (new : State) (crew : Crew) (round at : ℕ) → new ≡ assigned → ComesNext (lists_by old.plan old.log) crew.round crew.at round at item → IsCrew crew old → IsCrew (record crew { round = round; at = at + 1 }) new
   assigned_kept new crew round at same next k =
       subst (λ (s : State). IsCrew (record crew { round = round; at = at + 1 }) s) (sym same)
       (record {
-        crawls = k.crawls;
-        can = k.can;
-        there = assigned_there k.there;
-        place = place_next (lists_by old.plan old.log) crew.round crew.at round at item next;
-        given = λ worth. let both = both_given worth in let was = k.given worth in let before = weigh_placed worth (lists_by old.plan old.log) crew.round crew.at round at item next in omega (arith, both, was, before);
-        second = k.second;
-        third = k.third;
+        placed = next_placed crew assigned round at item next (assigned_placed assigned crew refl k.placed);
+        given = λ two three worth.
+            let both = both_given worth in
+            let was = k.given two three worth in
+            let before = ap (weigh worth) (before_next (lists_by old.plan old.log) crew.round crew.at round at item next) in
+            omega (arith, both, was, before, weigh_append worth (items_before crew.round crew.at (lists_by old.plan old.log)) (item ∷ []));
       })
 
   pub assigned_left : (new : State) → new ≡ assigned → old.crawl ≡ true → is_killed a old.log ≡ false → is_done_in a new ≡ false
@@ -292,13 +338,15 @@ pub begins : (s : State) → s ≡ opened_for true s.plan → CanCrawl s.plan �
 begins s e can =
     subst (λ (t : State). IsCrew first_crew t) (sym e)
     (record {
-      crawls = refl;
-      can = can;
-      there = λ a worker. (None, there a worker);
-      place = record { few = omega arith; within = omega arith };
-      given = λ worth. refl;
-      second = refl;
-      third = refl;
+      placed = record {
+        crawls = refl;
+        can = can;
+        there = λ a worker. (None, there a worker);
+        place = record { few = omega arith; within = omega arith };
+        second = refl;
+        third = refl;
+      };
+      given = λ two three worth. refl;
     })
   where
     none_at : (i : ℕ) → i ≤ 1 → slice_get {X = Option Item} (None ∷ None ∷ []) i ≡ Some None
@@ -313,11 +361,11 @@ begins s e can =
 -- where both live and are done, and all items were given, each was a task as often as it stands in the lists
 pub tried_all : (s : State) (crew : Crew) → IsCrew crew s → is_done_in 18 s ≡ true → is_done_in 19 s ≡ true → is_killed 18 s.log ≡ false → is_killed 19 s.log ≡ false → IsLast (lists_by s.plan s.log) crew.round crew.at → IsTried s.plan s.log
 tried_all s crew k second third second_lives third_lives last = λ worth.
-    let left : weigh worth (tasks_given 18 s) ≡ weigh worth (tasks_by 18 s.log) = ended_all 18 worth (idle_of 18 s crew k (omega arith, omega arith) second_lives second) in
-    let right : weigh worth (tasks_given 19 s) ≡ weigh worth (tasks_by 19 s.log) = ended_all 19 worth (idle_of 19 s crew k (omega arith, omega arith) third_lives third) in
-    let given = k.given worth in
-    let all = last worth in
-    omega (arith, left, right, given, all, sum_is worth (tasks_by 18 s.log), sum_is worth (tasks_by 19 s.log), sum_is worth (items_of (lists_by s.plan s.log)))
+    let left : weigh worth (tasks_given 18 s) ≡ weigh worth (tasks_by 18 s.log) = ended_all 18 worth (idle_of 18 s crew k.placed (omega arith, omega arith) second_lives second) in
+    let right : weigh worth (tasks_given 19 s) ≡ weigh worth (tasks_by 19 s.log) = ended_all 19 worth (idle_of 19 s crew k.placed (omega arith, omega arith) third_lives third) in
+    let given = k.given second_lives third_lives worth in
+    let all = ap (weigh worth) last in
+    omega (arith, left, right, given, all, weigh_given worth (lists_by s.plan s.log), sum_is worth (tasks_by 18 s.log), sum_is worth (tasks_by 19 s.log), sum_is worth (items_of (lists_by s.plan s.log)))
   where
     ended_all : (a : ℕ) (worth : Item → ℕ) → slice_get s.tasks (a - 18) ≡ Some None → weigh worth (tasks_given a s) ≡ weigh worth (tasks_by a s.log)
     ended_all a worth is = ap (λ (task : Option Item). weigh worth (with_item task (tasks_by a s.log))) (task_is a s None is)

@@ -10,7 +10,7 @@ use Rattle.afr_lines.specs.declared.line.Line.TheVariants.{Ask, Begin, End, Even
 use Rattle.afr_log.specs.Log.{unasked, unasked_line}
 use Rattle.afr_model.specs.Crawl.{IsWorker}
 use Rattle.afr_volume.specs.State.{State}
-use Rattle.afr_workers.specs.Crew.{IsCrew}
+use Rattle.afr_workers.specs.Crew.{IsPlaced}
 use Rattle.afr_workers.specs.declared.crew.Crew.{Crew}
 
 -- of the lines up to a position the one that stands there is the newest
@@ -49,7 +49,7 @@ kills_unshown a (HealEnd x g kind said) e = absurd (cc e)
 kills_unshown a (Event event) e = absurd (cc e)
 
 -- what is noted of a worker
-pub dead_is : (a : ℕ) (s : State) (crew : Crew) → IsWorker a → IsCrew crew s → (if a == 18 then crew.second_killed else crew.third_killed) ≡ is_killed a s.log
+pub dead_is : (a : ℕ) (s : State) (crew : Crew) → IsWorker a → IsPlaced crew s → (if a == 18 then crew.second_killed else crew.third_killed) ≡ is_killed a s.log
 dead_is a s crew worker k = by (a == 18) refl
   where
     by : (second : Bool) → (a == 18) ≡ second → (if second then crew.second_killed else crew.third_killed) ≡ is_killed a s.log

@@ -45,11 +45,11 @@ same_leads old new plan log = record { plan = plan; grows = omega (arith, ap len
 
 -- ---- an event
 -- the one that was seen to be due has come, and was noted
-pub event_noted : (old new : State) (event : OfEvent) (crew after : Crew) → due_of old ≡ Some event → Comes old new → after ≡ noted event crew → IsCrew crew old → IsCrew after new
-event_noted old new event crew after due h note k =
+pub noted_is : (old new : State) (event : OfEvent) (crew after : Crew) → due_of old ≡ Some event → (h : Comes old new) → after ≡ noted event crew → noted h.event crew ≡ after
+noted_is old new event crew after due h note =
     let twice : Some h.event ≡ Some event = sym h.is_due ∙ due in
     let same : h.event ≡ event = cc twice in
-    subst (λ (c : Crew). IsCrew c new) (sym note) (subst (λ (e : OfEvent). IsCrew (noted e crew) new) same (event_kept old new h crew k))
+    ap (λ (e : OfEvent). noted e crew) same ∙ sym note
 
 -- it adds a line
 pub event_grows : (old new : State) → Comes old new → length new.log ≡ length old.log + 1
@@ -129,7 +129,7 @@ pub crawled_of : (s : State) (crew : Crew) → IsCrew crew s → length s.log �
 crawled_of s crew k room settled (inl full) = record { complete = inl full; idle = λ open_log. absurd (omega (arith, open_log, full)) }
 crawled_of s crew k room settled (inr rest) = record {
   complete = by (nat_lt (length s.log) s.plan.turns) refl;
-  idle = λ open_log a worker alive. idle_of a s crew k worker alive (rest.done a (worker_actor s.plan a k.can worker));
+  idle = λ open_log a worker alive. idle_of a s crew k.placed worker alive (rest.done a (worker_actor s.plan a k.placed.can worker));
 }
   where
     by : (open_log : Bool) → nat_lt (length s.log) s.plan.turns ≡ open_log → IsComplete s.plan s.log
@@ -142,7 +142,7 @@ crawled_of s crew k room settled (inr rest) = record {
 
 pub tried_of : (s : State) (crew : Crew) → IsCrew crew s → (length s.log ≡ s.plan.turns) ⊎ IsAtRest s crew → IsTriedIn s
 tried_of s crew k (inl full) = λ open_log. absurd (omega (arith, open_log, full))
-tried_of s crew k (inr rest) = λ open_log second third. tried_all s crew k (rest.done 18 (worker_actor s.plan 18 k.can (omega arith, omega arith))) (rest.done 19 (worker_actor s.plan 19 k.can (omega arith, omega arith))) second third (last rest.second second)
+tried_of s crew k (inr rest) = λ open_log second third. tried_all s crew k (rest.done 18 (worker_actor s.plan 18 k.placed.can (omega arith, omega arith))) (rest.done 19 (worker_actor s.plan 19 k.placed.can (omega arith, omega arith))) second third (last rest.second second)
   where
     last : TakesNone 18 s crew → is_killed 18 s.log ≡ false → IsLast (lists_by s.plan s.log) crew.round crew.at
     last (inl dead) alive = absurd (cc (sym dead ∙ alive))

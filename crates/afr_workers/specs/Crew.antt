@@ -10,7 +10,7 @@ use Rattle.afr_model.specs.Following.{NoneDue}
 use Rattle.afr_tasks.specs.Balance.{weigh}
 use Rattle.afr_volume.specs.State.{State}
 use Rattle.afr_volume.specs.Tasks.{is_done_in, task_by}
-use Rattle.afr_workers.specs.Cursor.{IsLast, IsPlace, Item, weigh_before}
+use Rattle.afr_workers.specs.Cursor.{IsLast, IsPlace, Item, items_before}
 use Rattle.afr_workers.specs.declared.crew.Crew.{Crew}
 
 -- before the first line
@@ -25,15 +25,25 @@ noted event crew = record crew { second_killed = kills 18 (line_of.Event event) 
 abbrev pub tasks_given : ℕ → State → List Item
 tasks_given a s = with_item (task_by a s) (tasks_by a s.log)
 
--- what both were given is what comes before the next item, and who was killed is noted
-pub record IsCrew (crew : Crew) (s : State) : Type 0 where
+-- a place that a crawl has come to, and who of its workers was killed
+pub record IsPlaced (crew : Crew) (s : State) : Type 0 where
   pub crawls : s.crawl ≡ true
   pub can : CanCrawl s.plan
   pub there : (a : ℕ) → IsWorker a → (task : Option Item) × (slice_get s.tasks (a - 18) ≡ Some task)
   pub place : IsPlace (lists_by s.plan s.log) crew.round crew.at
-  pub given : (worth : Item → ℕ) → weigh worth (tasks_given 18 s) + weigh worth (tasks_given 19 s) ≡ weigh_before worth crew.round crew.at (lists_by s.plan s.log)
   pub second : crew.second_killed ≡ is_killed 18 s.log
   pub third : crew.third_killed ≡ is_killed 19 s.log
+
+-- where both workers live, what they were given are the items before a place, however items are weighed
+abbrev pub AreGiven : ℕ → ℕ → State → Type 0
+AreGiven round at s =
+    is_killed 18 s.log ≡ false → is_killed 19 s.log ≡ false
+    → (worth : Item → ℕ) → weigh worth (tasks_given 18 s) + weigh worth (tasks_given 19 s) ≡ weigh worth (items_before round at (lists_by s.plan s.log))
+
+-- where the next item is the first one that no worker was given
+pub record IsCrew (crew : Crew) (s : State) : Type 0 where
+  pub placed : IsPlaced crew s
+  pub given : AreGiven crew.round crew.at s
 
 -- the plan stays, and the log keeps its lines
 pub record Leads (old new : State) : Type 0 where
