@@ -11,7 +11,7 @@ use afr_volume::Volume;
 
 /// All events that are due.
 pub(crate) fn come(volume: &mut Volume, crew: &mut Crew) -> Result<(), NoMemory>
-    requires placed { IsPlaced crew.old volume.old }
+    requires { IsPlaced crew.old volume.old }
     ensures placed { IsPlaced crew.new volume.new }
     ensures crew { IsCrew crew.old volume.old → IsCrew crew.new volume.new }
     ensures happens { IsHappening volume.old volume.new }

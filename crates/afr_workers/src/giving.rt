@@ -26,7 +26,7 @@ pub(crate) fn give(volume: &mut Volume, a: ActorId, crew: &mut Crew) -> Result<(
     if !volume.is_done(a) {
         return Ok(());
     }
-    match next_item(volume, crew) {
+    match next_item(volume, crew.round, crew.at) {
         Some(next) => give_item(volume, a, crew, next),
         None => Ok(()),
     }

@@ -1,10 +1,8 @@
 //! The next item that no worker was given.
 ghost use Rattle.std.specs.Prelude.{◌≡◌, ◌+◌, ◌<◌, ◌≤◌, ◌^◌, IfSome, None, length, true};
 ghost use Rattle.afr_model.specs.Crawl.{list_at, lists_by};
-ghost use Rattle.afr_workers.specs.Crew.{IsCrew};
 ghost use Rattle.afr_workers.specs.Cursor.{ComesNext, IsLast, IsThere, items_in};
 
-use crate::crew::Crew;
 use afr_base::{Gfid, What};
 use afr_volume::Volume;
 
@@ -17,17 +15,18 @@ pub(crate) struct Next {
     pub(crate) what: What,
 }
 
-/// The item that comes next, if the crawler was given one that wasn't a task yet.
-pub(crate) fn next_item(volume: &Volume, crew: &Crew) -> Option<Next>
-    requires { IsCrew crew.now volume.now }
-    ensures some { IfSome result (λ next. ComesNext (lists_by volume.now.plan volume.now.log) crew.now.round crew.now.at next.round next.at (next.gfid, next.what)) }
+/// The item that comes next from this place on, of a round's list, if the crawler was given one. Rounds whose lists have no
+/// item there are passed over.
+pub(crate) fn next_item(volume: &Volume, from_round: u32, from_at: usize) -> Option<Next>
+    requires { volume.now.crawl ≡ true }
+    ensures some { IfSome result (λ next. ComesNext (lists_by volume.now.plan volume.now.log) from_round from_at next.round next.at (next.gfid, next.what)) }
     ensures room { IfSome result (λ next. next.at + 1 < 2 ^ 64) }
-    ensures none { result ≡ None → IsLast (lists_by volume.now.plan volume.now.log) crew.now.round crew.now.at }
+    ensures none { result ≡ None → IsLast (lists_by volume.now.plan volume.now.log) from_round from_at }
 {
     volume.every_line();
     let rounds = volume.plan().healers.item(0).len();
-    let mut at = crew.at;
-    for round in crew.round..volume.len() {
+    let mut at = from_at;
+    for round in from_round..volume.len() {
         if round as usize >= rounds {
             return None;
         }

@@ -25,4 +25,4 @@ pub returns-clause-plan : goal.returns-clause-plan
 returns-clause-plan g c = c.go_on-passed.ensures.leads.plan ∙ c.take_client_orders.ensures.goes.plan
 
 pub returns-clause-crawls : goal.returns-clause-crawls
-returns-clause-crawls g c = c.go_on-passed.ensures.crew.crawls
+returns-clause-crawls g c = c.go_on-passed.ensures.crew.placed.crawls

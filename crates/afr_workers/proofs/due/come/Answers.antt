@@ -10,7 +10,7 @@ use Rattle.afr_workers.proofs.due.come.Goals as goal
 
 pub loop-event-init : goal.loop-event-init
 loop-event-init c = record {
-  placed = c.requires.placed;
+  placed = c.requires;
   crew = λ k. k;
   happens = Still;
   round = refl;

@@ -8,7 +8,7 @@ use Rattle.afr_workers.proofs.GivenLemmas.{item_given}
 use Rattle.afr_workers.proofs.giving.give_item.Goals as goal
 
 pub assign-requires-clause-crawl : goal.assign-requires-clause-crawl
-assign-requires-clause-crawl c = c.requires.crew.crawls
+assign-requires-clause-crawl c = c.requires.crew.placed.crawls
 
 pub assign-requires-clause-given : goal.assign-requires-clause-given
 assign-requires-clause-given c = item_given c.args.volume.now.plan (c.args.next.gfid, c.args.next.what) c.args.volume.now.log c.args.next.round c.args.next.at c.requires.next.list c.requires.next.given c.requires.next.there
@@ -34,4 +34,4 @@ pub returns-clause-log : goal.returns-clause-log
 returns-clause-log c = ap (λ (s : State). s.log) c.in_ok-assign.ensures.ok
 
 pub returns-clause-ok : goal.returns-clause-ok
-returns-clause-ok c = assigned_left c.args.a.0 c.args.volume.now (c.args.next.gfid, c.args.next.what) c.requires.worker c.requires.idle c.assign.new.self c.in_ok-assign.ensures.ok c.requires.crew.crawls c.requires.alive
+returns-clause-ok c = assigned_left c.args.a.0 c.args.volume.now (c.args.next.gfid, c.args.next.what) c.requires.worker c.requires.idle c.assign.new.self c.in_ok-assign.ensures.ok c.requires.crew.placed.crawls c.requires.alive

@@ -6,7 +6,7 @@ use Rattle.afr_workers.proofs.PassLemmas.{done_stays, leads_then, still_then, ta
 use Rattle.afr_workers.proofs.passes.take_healers.Goals as goal
 
 pub take_turn-requires-clause-actor : goal.take_turn-requires-clause-actor
-take_turn-requires-clause-actor g c = let many = c.requires.crew.can.healers in Healer (omega arith) (omega (arith, many))
+take_turn-requires-clause-actor g c = let many = c.requires.crew.placed.can.healers in Healer (omega arith) (omega (arith, many))
 
 pub returns-in_err-take_task-clause-leads : goal.returns-in_err-take_task-clause-leads
 returns-in_err-take_task-clause-leads g c = leads_then c.args.volume.now c.take_turn.new.volume c.take_task.new.volume c.take_turn.ensures.leads c.take_task.ensures.leads

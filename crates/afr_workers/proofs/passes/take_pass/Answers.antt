@@ -10,6 +10,15 @@ returns-in_err-take_healers-clause-leads g c = leads_then c.args.volume.now c.ta
 pub returns-then-not-branch-2-clause-leads : goal.returns-then-not-branch-2-clause-leads
 returns-then-not-branch-2-clause-leads g c = leads_then c.args.volume.now c.take_clients.new.volume c.take_healers.new.volume c.take_clients.ensures.leads c.take_healers.ensures.leads
 
+pub come-requires : goal.come-requires
+come-requires g c = c.take_healers.ensures.crew.placed
+
+pub returns-in_err-come-clause-crew : goal.returns-in_err-come-clause-crew
+returns-in_err-come-clause-crew g c = c.come.ensures.crew c.take_healers.ensures.crew
+
+pub returns-clause-crew : goal.returns-clause-crew
+returns-clause-crew g c = c.come.ensures.crew c.take_healers.ensures.crew
+
 pub returns-in_err-come-clause-leads : goal.returns-in_err-come-clause-leads
 returns-in_err-come-clause-leads g c = leads_then c.args.volume.now c.take_clients.new.volume c.come.new.volume c.take_clients.ensures.leads (leads_then c.take_clients.new.volume c.take_healers.new.volume c.come.new.volume c.take_healers.ensures.leads c.come.ensures.leads)
 
@@ -29,7 +38,7 @@ returns-clause-rest g c = λ on few.
     let plan : c.come.new.volume.plan ≡ c.take_clients.new.volume.plan = (leads_then c.take_clients.new.volume c.take_healers.new.volume c.come.new.volume c.take_healers.ensures.leads c.come.ensures.leads).plan in
     record {
       events = c.in_ok-come.ensures.events;
-      done = all_done c.come.new.volume c.come.ensures.crew.can
+      done = all_done c.come.new.volume c.come.ensures.placed.can
           (λ k small. done_stays (1 + k) c.take_clients.new.volume c.come.new.volume c.take_clients.new.crew c.come.new.crew both (c.take_clients.ensures.done (ap Ok first) (omega (arith, few, b, d)) k (rw plan at small)))
           (λ k small. done_stays (17 + k) c.take_healers.new.volume c.come.new.volume c.take_healers.new.crew c.come.new.crew last (c.take_healers.ensures.done (ap Ok second) (omega (arith, few, a, d)) k small));
       second = takes_none_stays 18 c.take_healers.new.volume c.come.new.volume c.take_healers.new.crew c.come.new.crew last (c.take_healers.ensures.none (ap Ok second) (omega (arith, few, a, d)));

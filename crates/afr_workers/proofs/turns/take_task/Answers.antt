@@ -6,8 +6,17 @@ use Rattle.afr_workers.specs.Crew.{IsCrew, IsStill, Leads}
 use Rattle.afr_workers.proofs.PassLemmas.{leads_then, same_leads, still_then, task_still, turn_full, turn_kept, turn_leads, worker_actor}
 use Rattle.afr_workers.proofs.turns.take_task.Goals as goal
 
+pub come-requires : goal.come-requires
+come-requires g c = c.requires.crew.placed
+
+pub returns-in_err-come-clause-crew : goal.returns-in_err-come-clause-crew
+returns-in_err-come-clause-crew g c = c.come.ensures.crew c.requires.crew
+
+pub give-requires-clause-crew : goal.give-requires-clause-crew
+give-requires-clause-crew g c = c.come.ensures.crew c.requires.crew
+
 pub turn-requires-clause-actor : goal.turn-requires-clause-actor
-turn-requires-clause-actor g c = worker_actor c.give.new.volume.plan c.args.a.0 c.give.ensures.crew.can c.requires.worker
+turn-requires-clause-actor g c = worker_actor c.give.new.volume.plan c.args.a.0 c.give.ensures.crew.placed.can c.requires.worker
 
 pub turn-requires-clause-none : goal.turn-requires-clause-none
 turn-requires-clause-none g c = rw (c.give.ensures.plan, c.give.ensures.log) c.in_ok-come.ensures.none
