@@ -3,8 +3,10 @@
 
 mod crowd;
 mod gate;
+mod held;
 mod threads;
 
 pub use crowd::{Crowd, Step};
 pub use gate::{Gate, NoGate};
+pub use held::Held;
 pub use threads::run_crowd;
