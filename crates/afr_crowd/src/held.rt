@@ -1,5 +1,5 @@
 //! Who was told that another holds its lock, since the last line that told of something else.
-ghost use Rattle.std.specs.Prelude.{◌≡◌, ◌<◌, nat_lt, replicate, slice_index_or, slice_set};
+ghost use Rattle.std.specs.Prelude.{◌≡◌, ◌<◌, ◌≤◌, nat_lt, replicate, slice_index_or, slice_set};
 
 use afr_base::ActorId;
 
@@ -24,11 +24,21 @@ impl Held {
         }
     }
 
-    /// The log has come to this length by a line that told of something else, or by an event.
+    /// The log has come to this length by a line that told of something else.
     pub fn note_moved(&mut self, len: u32)
         ensures { self.new ≡ record self.old { moved = len } }
     {
         self.moved = len;
+    }
+
+    /// The same of the events that came since the log had so many lines.
+    pub fn note_events(&mut self, before: u32, len: u32)
+        ensures some { before < len → self.new ≡ record self.old { moved = len } }
+        ensures none { len ≤ before → self.new ≡ self.old }
+    {
+        if len > before {
+            self.moved = len;
+        }
     }
 
     /// The log has come to this length by a line that told the actor so.

@@ -90,7 +90,7 @@ rounds_next (list ∷ lists) round = by (nat_lt (length lists) round) (round == 
 
 -- ---- places
 -- at the beginning of a round's list nothing of it comes before
-at_first : (round : ℕ) (lists : Lists) → items_before round 0 lists ≡ items_below round lists
+pub at_first : (round : ℕ) (lists : Lists) → items_before round 0 lists ≡ items_below round lists
 at_first round lists = first (items_in (list_at round lists))
   where
     first : (items : List Item) → items_below round lists ++ take 0 items ≡ items_below round lists
