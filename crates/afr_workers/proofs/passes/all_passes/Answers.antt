@@ -23,4 +23,4 @@ pub returns-then-len-before-clause-ok : goal.returns-then-len-before-clause-ok
 returns-then-len-before-clause-ok g c =
     let on : c.in_ok-take_pass.field-0 ≡ true = grind (arith, common_steps) in
     let still : length c.take_pass.new.volume.log ≤ length c.loop-volume.volume.log = omega (arith, c.len.ensures, c.len-before.ensures, c.if-len-before.true) in
-    inr (c.take_pass.ensures.rest (ap Ok on) still)
+    inr (c.in_ok-take_pass.ensures.rest (ap Ok on) still)

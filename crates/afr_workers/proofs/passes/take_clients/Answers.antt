@@ -31,10 +31,10 @@ loop-i-preserved g c =
     record {
       crew = c.take_turn.ensures.crew;
       leads = leads_then c.args.volume.now c.loop-i.volume c.take_turn.new.volume c.loop-i.invariant.leads c.take_turn.ensures.leads;
-      still = λ few. still_then c.args.volume.now c.loop-i.volume c.take_turn.new.volume c.args.crew.now c.loop-i.crew c.take_turn.new.crew (c.loop-i.invariant.still (omega (arith, few, high))) (c.take_turn.ensures.still (ap Ok on) (omega (arith, few, low)));
+      still = λ few. still_then c.args.volume.now c.loop-i.volume c.take_turn.new.volume c.args.crew.now c.loop-i.crew c.take_turn.new.crew (c.loop-i.invariant.still (omega (arith, few, high))) (c.in_ok-take_turn.ensures.still (ap Ok on) (omega (arith, few, low)));
       done = λ few. row_more 1 c.take_turn.new.volume c.loop-i.i
-          (λ k small. done_stays (1 + k) c.loop-i.volume c.take_turn.new.volume c.loop-i.crew c.take_turn.new.crew (c.take_turn.ensures.still (ap Ok on) (omega (arith, few, low))) (c.loop-i.invariant.done (omega (arith, few, high)) k small))
-          (c.take_turn.ensures.done (ap Ok on) (omega (arith, few, low)));
+          (λ k small. done_stays (1 + k) c.loop-i.volume c.take_turn.new.volume c.loop-i.crew c.take_turn.new.crew (c.in_ok-take_turn.ensures.still (ap Ok on) (omega (arith, few, low))) (c.loop-i.invariant.done (omega (arith, few, high)) k small))
+          (c.in_ok-take_turn.ensures.done (ap Ok on) (omega (arith, few, low)));
     }
 
 pub returns-in_err-take_turn-clause-leads : goal.returns-in_err-take_turn-clause-leads

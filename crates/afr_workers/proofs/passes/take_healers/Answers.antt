@@ -24,8 +24,8 @@ returns-clause-still g c = λ on few.
     let a = c.take_turn.ensures.leads.grows in
     let b = c.take_task.ensures.leads.grows in
     let d = c.take_task-2.ensures.leads.grows in
-    still_then c.args.volume.now c.take_turn.new.volume c.take_task-2.new.volume c.args.crew.now c.take_turn.new.crew c.take_task-2.new.crew (c.take_turn.ensures.still (ap Ok first) (omega (arith, few, b, d)))
-    (still_then c.take_turn.new.volume c.take_task.new.volume c.take_task-2.new.volume c.take_turn.new.crew c.take_task.new.crew c.take_task-2.new.crew (c.take_task.ensures.still (ap Ok second) (omega (arith, few, a, d))) (c.take_task-2.ensures.still on (omega (arith, few, a, b))))
+    still_then c.args.volume.now c.take_turn.new.volume c.take_task-2.new.volume c.args.crew.now c.take_turn.new.crew c.take_task-2.new.crew (c.in_ok-take_turn.ensures.still (ap Ok first) (omega (arith, few, b, d)))
+    (still_then c.take_turn.new.volume c.take_task.new.volume c.take_task-2.new.volume c.take_turn.new.crew c.take_task.new.crew c.take_task-2.new.crew (c.in_ok-take_task.ensures.still (ap Ok second) (omega (arith, few, a, d))) (c.take_task-2.ensures.still on (omega (arith, few, a, b))))
 
 pub returns-clause-done : goal.returns-clause-done
 returns-clause-done g c = λ on few.
@@ -35,10 +35,10 @@ returns-clause-done g c = λ on few.
     let b = c.take_task.ensures.leads.grows in
     let d = c.take_task-2.ensures.leads.grows in
     let last = c.take_task-2.ensures.still on (omega (arith, few, a, b)) in
-    let middle = c.take_task.ensures.still (ap Ok second) (omega (arith, few, a, d)) in
+    let middle = c.in_ok-take_task.ensures.still (ap Ok second) (omega (arith, few, a, d)) in
     three_done c.take_task-2.new.volume
-    (done_stays 17 c.take_turn.new.volume c.take_task-2.new.volume c.take_turn.new.crew c.take_task-2.new.crew (still_then c.take_turn.new.volume c.take_task.new.volume c.take_task-2.new.volume c.take_turn.new.crew c.take_task.new.crew c.take_task-2.new.crew middle last) (c.take_turn.ensures.done (ap Ok first) (omega (arith, few, b, d))))
-    (done_stays 18 c.take_task.new.volume c.take_task-2.new.volume c.take_task.new.crew c.take_task-2.new.crew last (c.take_task.ensures.done (ap Ok second) (omega (arith, few, a, d))))
+    (done_stays 17 c.take_turn.new.volume c.take_task-2.new.volume c.take_turn.new.crew c.take_task-2.new.crew (still_then c.take_turn.new.volume c.take_task.new.volume c.take_task-2.new.volume c.take_turn.new.crew c.take_task.new.crew c.take_task-2.new.crew middle last) (c.in_ok-take_turn.ensures.done (ap Ok first) (omega (arith, few, b, d))))
+    (done_stays 18 c.take_task.new.volume c.take_task-2.new.volume c.take_task.new.crew c.take_task-2.new.crew last (c.in_ok-take_task.ensures.done (ap Ok second) (omega (arith, few, a, d))))
     (c.take_task-2.ensures.done on (omega (arith, few, a, b)))
 
 pub returns-clause-none : goal.returns-clause-none
@@ -47,4 +47,4 @@ returns-clause-none g c = λ on few.
     let a = c.take_turn.ensures.leads.grows in
     let b = c.take_task.ensures.leads.grows in
     let d = c.take_task-2.ensures.leads.grows in
-    takes_none_stays 18 c.take_task.new.volume c.take_task-2.new.volume c.take_task.new.crew c.take_task-2.new.crew (c.take_task-2.ensures.still on (omega (arith, few, a, b))) (c.take_task.ensures.none (ap Ok second) (omega (arith, few, a, d)))
+    takes_none_stays 18 c.take_task.new.volume c.take_task-2.new.volume c.take_task.new.crew c.take_task-2.new.crew (c.take_task-2.ensures.still on (omega (arith, few, a, b))) (c.in_ok-take_task.ensures.none (ap Ok second) (omega (arith, few, a, d)))

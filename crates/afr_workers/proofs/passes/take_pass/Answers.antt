@@ -33,13 +33,13 @@ returns-clause-rest g c = λ on few.
     let b = c.take_healers.ensures.leads.grows in
     let d = c.come.ensures.leads.grows in
     let last = c.come.ensures.still (omega (arith, few, a, b)) in
-    let middle = c.take_healers.ensures.still (ap Ok second) (omega (arith, few, a, d)) in
+    let middle = c.in_ok-take_healers.ensures.still (ap Ok second) (omega (arith, few, a, d)) in
     let both = still_then c.take_clients.new.volume c.take_healers.new.volume c.come.new.volume c.take_clients.new.crew c.take_healers.new.crew c.come.new.crew middle last in
     let plan : c.come.new.volume.plan ≡ c.take_clients.new.volume.plan = (leads_then c.take_clients.new.volume c.take_healers.new.volume c.come.new.volume c.take_healers.ensures.leads c.come.ensures.leads).plan in
     record {
       events = c.in_ok-come.ensures.events;
       done = all_done c.come.new.volume c.come.ensures.placed.can
-          (λ k small. done_stays (1 + k) c.take_clients.new.volume c.come.new.volume c.take_clients.new.crew c.come.new.crew both (c.take_clients.ensures.done (ap Ok first) (omega (arith, few, b, d)) k (rw plan at small)))
-          (λ k small. done_stays (17 + k) c.take_healers.new.volume c.come.new.volume c.take_healers.new.crew c.come.new.crew last (c.take_healers.ensures.done (ap Ok second) (omega (arith, few, a, d)) k small));
-      second = takes_none_stays 18 c.take_healers.new.volume c.come.new.volume c.take_healers.new.crew c.come.new.crew last (c.take_healers.ensures.none (ap Ok second) (omega (arith, few, a, d)));
+          (λ k small. done_stays (1 + k) c.take_clients.new.volume c.come.new.volume c.take_clients.new.crew c.come.new.crew both (c.in_ok-take_clients.ensures.done (ap Ok first) (omega (arith, few, b, d)) k (rw plan at small)))
+          (λ k small. done_stays (17 + k) c.take_healers.new.volume c.come.new.volume c.take_healers.new.crew c.come.new.crew last (c.in_ok-take_healers.ensures.done (ap Ok second) (omega (arith, few, a, d)) k small));
+      second = takes_none_stays 18 c.take_healers.new.volume c.come.new.volume c.take_healers.new.crew c.come.new.crew last (c.in_ok-take_healers.ensures.none (ap Ok second) (omega (arith, few, a, d)));
     }
