@@ -10,6 +10,7 @@ use afr_volume::Volume;
 #[tactic(auto, using(crate::proofs::ActorLemmas::all_actors))]
 pub fn all_done(volume: &Volume) -> bool
     requires few { length volume.now.plan.healers ≤ 16 }
+    requires plain { volume.now.crawl ≡ false }
     ensures done { result ≡ true → AreDone volume.now.plan volume.now.log }
     ensures left { result ≡ false → IsWorkLeft volume.now.plan volume.now.log }
 {
@@ -22,6 +23,7 @@ pub fn all_done(volume: &Volume) -> bool
 /// The same of so many actors in a row.
 fn are_done(volume: &Volume, first: u16, count: u16) -> bool
     requires few { first + count ≤ 33 }
+    requires plain { volume.now.crawl ≡ false }
     requires actors { (i : ℕ) → i < count → IsActor volume.now.plan (first + i) }
     ensures done { result ≡ true → (i : ℕ) → i < count → is_done volume.now.plan (first + i) volume.now.log ≡ true }
     ensures left { result ≡ false → IsWorkLeft volume.now.plan volume.now.log }

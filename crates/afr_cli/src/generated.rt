@@ -1,5 +1,5 @@
 //! A generated load, from its number to what is written of it.
-ghost use Rattle.std.specs.Prelude.{◌≡◌, ◌≢◌, ◌⊎◌, ◌≤◌};
+ghost use Rattle.std.specs.Prelude.{◌≡◌, ◌≢◌, ◌⊎◌, ◌≤◌, false};
 ghost use Rattle.std.specs.Io.KnownBytes.{Appends};
 ghost use Rattle.afr_text.specs.Causes.{Rose};
 ghost use Rattle.afr_text.specs.Parts.{AppendsFront};
@@ -38,6 +38,7 @@ pub fn make_and_run<K: Sink, F: Fn(&[Candidate]) -> usize, G: Fn(&[Candidate]) -
     requires fresh { volume.old ≡ no_volume }
     ensures few { (result ≡ 0) ⊎ (result ≡ 5) ⊎ (result ≡ 6) }
     ensures plan { (volume.new ≡ no_volume) ⊎ (volume.new.plan ≡ generated n) }
+    ensures plain { volume.new.crawl ≡ false }
     ensures ran { result ≢ 6 → volume.new.plan ≡ generated n }
     ensures ordered { IsOrdered volume.new.plan volume.new.log }
     ensures ok { result ≡ 0 → IsComplete volume.new.plan volume.new.log × AreDone volume.new.plan volume.new.log }

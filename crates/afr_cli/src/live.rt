@@ -1,5 +1,5 @@
 //! The call for a run by threads, which may be recorded.
-ghost use Rattle.std.specs.Prelude.{◌≡◌, ◌≢◌, ◌≤◌, ◌<◌, ◌^◌, ◌⊎◌, ℕ, List, [], OnOk, String, length};
+ghost use Rattle.std.specs.Prelude.{◌≡◌, ◌≢◌, ◌≤◌, ◌<◌, ◌^◌, ◌⊎◌, ℕ, List, [], OnOk, String, length, false};
 ghost use Rattle.std.specs.Global.{Global};
 ghost use Rattle.std.specs.Io.KnownBytes.{Appends};
 ghost use Rattle.afr_law_bound.specs.Ends.Law.{AreEager};
@@ -94,6 +94,7 @@ pub fn afr_live<
 
     // At every status.
     ensures plan { (volume.new ≡ no_volume) ⊎ (AreLive words.now × IsSpelled (S.left source.old) (S.left source.new) volume.new.plan) }
+    ensures plain { volume.new.crawl ≡ false }
     ensures others { (AreLive words.now → ⊥) → (result ≡ 2) ⊎ (result ≡ 5) }
     ensures few { (result ≡ 0) ⊎ (result ≡ 2) ⊎ (result ≡ 3) ⊎ (result ≡ 4) ⊎ (result ≡ 5) ⊎ (result ≡ 6) ⊎ (result ≡ 7) }
     ensures eager { AreEager volume.new.log }
@@ -141,6 +142,7 @@ fn read_and_run<
     ensures memory { result ≡ 6 → sink.new ≡ sink.old }
     ensures eager { AreEager volume.new.log }
     ensures plan { (volume.new ≡ no_volume) ⊎ IsSpelled (S.left source.old) (S.left source.new) volume.new.plan }
+    ensures plain { volume.new.crawl ≡ false }
     ensures few { (result ≡ 0) ⊎ (result ≡ 3) ⊎ (result ≡ 4) ⊎ (result ≡ 5) ⊎ (result ≡ 6) ⊎ (result ≡ 7) }
 {
     match read_runnable(alloc, source) {
@@ -179,6 +181,7 @@ fn run_live<
     requires fresh { volume.old ≡ no_volume }
     ensures few { (result ≡ 0) ⊎ (result ≡ 5) ⊎ (result ≡ 6) ⊎ (result ≡ 7) }
     ensures plan { (volume.new ≡ no_volume) ⊎ (volume.new.plan ≡ plan) }
+    ensures plain { volume.new.crawl ≡ false }
     ensures ran { result ≢ 6 → volume.new.plan ≡ plan }
     ensures ok { result ≡ 0 → IsComplete volume.new.plan volume.new.log × AreDone volume.new.plan volume.new.log }
     ensures unfinished { result ≡ 7 → Appends (K.taken sink.old) (K.taken sink.new) (text_live form volume.new.plan volume.new.log)
@@ -210,7 +213,9 @@ fn run_lent<
     requires rule { IsRule F.Fn rules.now.heal }
     requires read_rule { IsRule G.Fn rules.now.read }
     requires fresh { volume.old.log ≡ [] }
+    requires plain { volume.old.crawl ≡ false }
     ensures plan { volume.new.plan ≡ volume.old.plan }
+    ensures plain { volume.new.crawl ≡ false }
     ensures ok { OnOk result (IsComplete volume.new.plan volume.new.log) }
     ensures ends { OnOk result (EndsInAnyOrder volume.new.plan volume.new.log) }
     ensures eager { AreEager volume.new.log }

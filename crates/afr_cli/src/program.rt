@@ -96,6 +96,7 @@ pub fn afr_top<S: Source, K: Sink, F: Fn(&[Candidate]) -> usize, G: Fn(&[Candida
 
     // At every status.
     ensures plan { (volume.new ≡ no_volume) ⊎ IsPlanned words.now (S.left source.old) (S.left source.new) volume.new.plan }
+    ensures plain { volume.new.crawl ≡ false }
     ensures others { ((AreForm words.now → ⊥) → (result ≡ 2) ⊎ (result ≡ 5) ⊎ (result ≡ 6)) × (AreRefused words.now → (result ≡ 2) ⊎ (result ≡ 5)) }
     ensures few { (result ≡ 0) ⊎ (result ≡ 2) ⊎ (result ≡ 3) ⊎ (result ≡ 4) ⊎ (result ≡ 5) ⊎ (result ≡ 6) ⊎ (result ≡ 7) ⊎ (result ≡ 9) ⊎ (result ≡ 10) }
     ensures right { IsRight volume.new.plan volume.new.log }
@@ -144,6 +145,7 @@ fn serve<S: Source, K: Sink, F: Fn(&[Candidate]) -> usize, G: Fn(&[Candidate]) -
     ensures replay { (turns : ℕ) → form ≡ Form.Replay turns → (result ≡ 0) ⊎ (result ≡ 4) ⊎ (result ≡ 5) ⊎ (result ≡ 6) ⊎ (result ≡ 7) ⊎ (result ≡ 9) ⊎ (result ≡ 10) }
     ensures others { is_replay form ≡ false → (result ≡ 0) ⊎ (result ≡ 3) ⊎ (result ≡ 4) ⊎ (result ≡ 5) ⊎ (result ≡ 6) ⊎ (result ≡ 7) }
     ensures plan { (volume.new ≡ no_volume) ⊎ IsPlanOf form (S.left source.old) (S.left source.new) volume.new.plan }
+    ensures plain { volume.new.crawl ≡ false }
     ensures few { (result ≡ 0) ⊎ (result ≡ 3) ⊎ (result ≡ 4) ⊎ (result ≡ 5) ⊎ (result ≡ 6) ⊎ (result ≡ 7) ⊎ (result ≡ 9) ⊎ (result ≡ 10) }
     ensures ordered { is_replay form ≡ false → IsOrdered volume.new.plan volume.new.log }
     ensures chosen { IsChosenBy F.Fn G.Fn rules.now volume.new }
@@ -180,6 +182,7 @@ fn read_and_run<S: Source, K: Sink, F: Fn(&[Candidate]) -> usize, G: Fn(&[Candid
         × ((words : List (String Global)) → AskFor words form → StopsWriting words S.left source.old source.new (K.taken sink.old) (K.taken sink.new) volume.new) }
     ensures memory { result ≡ 6 → sink.new ≡ sink.old }
     ensures plan { (volume.new ≡ no_volume) ⊎ IsSpelled (S.left source.old) (S.left source.new) volume.new.plan }
+    ensures plain { volume.new.crawl ≡ false }
     ensures few { (result ≡ 0) ⊎ (result ≡ 3) ⊎ (result ≡ 4) ⊎ (result ≡ 5) ⊎ (result ≡ 6) ⊎ (result ≡ 7) }
     ensures ordered { IsOrdered volume.new.plan volume.new.log }
     ensures chosen { IsChosenBy F.Fn G.Fn rules.now volume.new }

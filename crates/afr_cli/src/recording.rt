@@ -1,5 +1,5 @@
 //! What is written of a run by threads.
-ghost use Rattle.std.specs.Prelude.{◌≡◌, ◌⊎◌, ◌≤◌, ◌<◌, ◌^◌, IfOk, length};
+ghost use Rattle.std.specs.Prelude.{◌≡◌, ◌⊎◌, ◌≤◌, ◌<◌, ◌^◌, IfOk, length, false};
 ghost use Rattle.std.specs.Io.KnownBytes.{Appends};
 ghost use Rattle.afr_text.specs.Causes.{Rose};
 ghost use Rattle.afr_text.specs.Parts.{AppendsFront};
@@ -22,6 +22,7 @@ use std::alloc::Global;
 pub fn tell_live<K: Sink>(alloc: Global, form: LiveForm, sink: &mut K, volume: &Volume) -> u8
     requires short { length (plan_text volume.now.plan) < 2 ^ 32 }
     requires actors { length volume.now.plan.healers ≤ 16 }
+    requires plain { volume.now.crawl ≡ false }
     requires complete { IsComplete volume.now.plan volume.now.log }
     ensures few { (result ≡ 0) ⊎ (result ≡ 5) ⊎ (result ≡ 6) ⊎ (result ≡ 7) }
     ensures ok { result ≡ 0 → AreDone volume.now.plan volume.now.log }
@@ -40,7 +41,8 @@ pub fn tell_live<K: Sink>(alloc: Global, form: LiveForm, sink: &mut K, volume: &
 
 /// The text that the form writes of the volume as it stands.
 fn text_live(alloc: Global, form: LiveForm, volume: &Volume) -> Result<Vec<u8>, NoMemory>
-    requires { length (plan_text volume.now.plan) < 2 ^ 32 }
+    requires printed { length (plan_text volume.now.plan) < 2 ^ 32 }
+    requires plain { volume.now.crawl ≡ false }
     ensures ok { IfOk result (λ text. text.items ≡ text_live form volume.now.plan volume.now.log) }
 {
     match form {
@@ -51,7 +53,8 @@ fn text_live(alloc: Global, form: LiveForm, volume: &Volume) -> Result<Vec<u8>, 
 
 /// The bytes of the image of the volume as it stands. The plan isn't copied.
 fn image_text(alloc: Global, volume: &Volume) -> Result<Vec<u8>, NoMemory>
-    requires { length (plan_text volume.now.plan) < 2 ^ 32 }
+    requires printed { length (plan_text volume.now.plan) < 2 ^ 32 }
+    requires plain { volume.now.crawl ≡ false }
     ensures ok { IfOk result (λ text. text.items ≡ image_text volume.now.plan volume.now.log) }
 {
     volume.every_line();

@@ -1,5 +1,5 @@
 //! A recorded run, from its image to what is written of it when it was made again.
-ghost use Rattle.std.specs.Prelude.{◌≡◌, ◌≢◌, ◌⊎◌, ◌≤◌, ℕ, List, String, length};
+ghost use Rattle.std.specs.Prelude.{◌≡◌, ◌≢◌, ◌⊎◌, ◌≤◌, ℕ, List, String, length, false};
 ghost use Rattle.std.specs.Global.{Global};
 ghost use Rattle.std.specs.Io.KnownBytes.{Appends};
 ghost use Rattle.afr_text.specs.Causes.{Rose};
@@ -50,6 +50,7 @@ pub fn read_and_replay<
     requires fresh { volume.old ≡ no_volume }
     ensures few { (result ≡ 0) ⊎ (result ≡ 4) ⊎ (result ≡ 5) ⊎ (result ≡ 6) ⊎ (result ≡ 7) ⊎ (result ≡ 9) ⊎ (result ≡ 10) }
     ensures plan { (volume.new ≡ no_volume) ⊎ IsImagePlan turns (S.left source.old) (S.left source.new) volume.new.plan }
+    ensures plain { volume.new.crawl ≡ false }
     ensures repeats { (result ≡ 0) ⊎ (result ≡ 7) → Repeats turns (S.left source.old) (S.left source.new) volume.new }
     ensures ok { result ≡ 0 → Appends (K.taken sink.old) (K.taken sink.new) (report_of volume.new.plan volume.new.log) × IsComplete volume.new.plan volume.new.log × AreDone volume.new.plan volume.new.log }
     ensures unfinished { result ≡ 7 → Appends (K.taken sink.old) (K.taken sink.new) (report_of volume.new.plan volume.new.log) × IsFull volume.new.plan volume.new.log × IsWorkLeft volume.new.plan volume.new.log }
@@ -88,6 +89,7 @@ fn replay_image<K: Sink, F: Fn(&[Candidate]) -> usize, G: Fn(&[Candidate]) -> us
     requires fresh { volume.old ≡ no_volume }
     ensures few { (result ≡ 0) ⊎ (result ≡ 5) ⊎ (result ≡ 6) ⊎ (result ≡ 7) ⊎ (result ≡ 10) }
     ensures plan { (volume.new ≡ no_volume) ⊎ (volume.new.plan ≡ replayed_plan turns image) }
+    ensures plain { volume.new.crawl ≡ false }
     ensures ran { result ≢ 6 → volume.new.plan ≡ replayed_plan turns image }
     ensures repeats { (result ≡ 0) ⊎ (result ≡ 7) → Retraces volume.new.plan image.steps volume.new.log × HasSteps image.steps volume.new.log }
     ensures ok { result ≡ 0 → Appends (K.taken sink.old) (K.taken sink.new) (report_of volume.new.plan volume.new.log) × IsComplete volume.new.plan volume.new.log × AreDone volume.new.plan volume.new.log }

@@ -41,6 +41,7 @@ pub fn run_plan<K: Sink, F: Fn(&[Candidate]) -> usize, G: Fn(&[Candidate]) -> us
     requires fresh { volume.old ≡ no_volume }
     ensures few { (result ≡ 0) ⊎ (result ≡ 5) ⊎ (result ≡ 6) ⊎ (result ≡ 7) }
     ensures plan { (volume.new ≡ no_volume) ⊎ (volume.new.plan ≡ plan) }
+    ensures plain { volume.new.crawl ≡ false }
     ensures ran { result ≢ 6 → volume.new.plan ≡ plan }
     ensures ordered { IsOrdered volume.new.plan volume.new.log }
     ensures ok { result ≡ 0 → IsComplete volume.new.plan volume.new.log × AreDone volume.new.plan volume.new.log }
@@ -66,6 +67,7 @@ pub fn run_plan<K: Sink, F: Fn(&[Candidate]) -> usize, G: Fn(&[Candidate]) -> us
 /// Writes the text of the form of a run that is over, and answers how it ended.
 pub fn tell<K: Sink>(alloc: Global, form: Form, sink: &mut K, volume: &Volume) -> u8
     requires actors { length volume.now.plan.healers ≤ 16 }
+    requires plain { volume.now.crawl ≡ false }
     requires complete { IsComplete volume.now.plan volume.now.log }
     ensures few { (result ≡ 0) ⊎ (result ≡ 5) ⊎ (result ≡ 6) ⊎ (result ≡ 7) }
     ensures ok { result ≡ 0 → AreDone volume.now.plan volume.now.log }
@@ -85,6 +87,7 @@ pub fn tell<K: Sink>(alloc: Global, form: Form, sink: &mut K, volume: &Volume) -
 /// Writes the text of a run that is over, and answers how it ended.
 pub fn finish<K: Sink>(sink: &mut K, text: &[u8], volume: &Volume) -> u8
     requires actors { length volume.now.plan.healers ≤ 16 }
+    requires plain { volume.now.crawl ≡ false }
     requires complete { IsComplete volume.now.plan volume.now.log }
     ensures few { (result ≡ 0) ⊎ (result ≡ 5) ⊎ (result ≡ 7) }
     ensures ok { result ≡ 0 → AreDone volume.now.plan volume.now.log }
@@ -114,6 +117,7 @@ fn text_of(alloc: Global, form: Form, volume: &Volume) -> Result<String, NoMemor
 /// The status of a run that is over, where its text is written to its end.
 fn status_after(volume: &Volume) -> u8
     requires few { length volume.now.plan.healers ≤ 16 }
+    requires plain { volume.now.crawl ≡ false }
     requires complete { IsComplete volume.now.plan volume.now.log }
     ensures two { (result ≡ 0) ⊎ (result ≡ 7) }
     ensures done { result ≡ 0 → AreDone volume.now.plan volume.now.log }
@@ -130,6 +134,7 @@ fn status_after(volume: &Volume) -> u8
 /// Whether the log was full before all work was done.
 fn is_unfinished(volume: &Volume) -> bool
     requires few { length volume.now.plan.healers ≤ 16 }
+    requires plain { volume.now.crawl ≡ false }
     requires complete { IsComplete volume.now.plan volume.now.log }
     ensures yes { result ≡ true → IsFull volume.now.plan volume.now.log × IsWorkLeft volume.now.plan volume.now.log }
     ensures no { result ≡ false → AreDone volume.now.plan volume.now.log }

@@ -5,12 +5,14 @@ use Rattle.afr_lines.specs.Work.{is_end}
 use Rattle.afr_lines.specs.declared.line.Line.TheVariants.{End}
 use Rattle.afr_lines.specs.declared.line.Line.{Line}
 use Rattle.afr_log.specs.Log.{waits_for}
-use Rattle.afr_volume.specs.Going.{IsHappening, Still, Later}
+use Rattle.afr_volume.proofs.TaskDone.{done_by_plan}
+use Rattle.afr_volume.specs.Going.{Goes, IsHappening, Still, Later}
 use Rattle.afr_volume.specs.State.{State}
 use Rattle.afr_volume.specs.Turning.{AddsLine, Turns}
 use Rattle.afr_volume.specs.declared.turned.Turned.{Turned}
 use Rattle.afr_volume.specs.declared.turned.Turned.TheVariants.{Moved, Waits, Ended, Full}
 use Rattle.afr_live.specs.Ends.{works_ended}
+use Rattle.afr_live.specs.Turns.{TakesTurn}
 
 few_at : (line : Line) (older : List Line) (b : Bool) → is_end line ≡ b → works_ended older ≤ length older → works_ended (line ∷ older) ≤ length (line ∷ older)
 few_at line older true is h = rw is (omega (arith, h))
@@ -61,3 +63,10 @@ unmoved_ends a old new Moved h other = absurd (other refl)
 unmoved_ends a old new (Waits owner) h other = (let goes_on : is_end h.line ≡ false = waits_on h.line owner h.waiting in rw (h.added, goes_on) refl)
 unmoved_ends a old new Ended h other = rw h.1 refl
 unmoved_ends a old new Full h other = rw h.2 refl
+
+-- ---- what a turn has made of the volume, after the events before it
+pub takes_turn : (a : ActorId) (old mid new : State) (turned : Turned) → Goes old mid → Turns a mid turned new → TakesTurn a old turned new
+takes_turn a old mid new Moved goes h = let low = goes.grows in omega (arith, low, ap length h.added)
+takes_turn a old mid new (Waits owner) goes h = let low = goes.grows in omega (arith, low, ap length h.added)
+takes_turn a old mid new Ended goes h = rw h.1 (done_by_plan a.0 mid h.0)
+takes_turn a old mid new Full goes h = rw h.2 h.0

@@ -21,7 +21,7 @@ use afr_rule::{Candidate, Rules};
 use afr_volume::{Turned, Volume, come_due};
 use std::sync::ledger::Book;
 
-/// A volume that threads share. Whenever its lock is free, its plan is that of the run, its book has counted the End
+/// A volume that threads share. Whenever its lock is free, its plan is that of the run, its healers go their own rounds, its book has counted the End
 /// lines of its log, and nobody was told Held on a transaction's lock twice running: between two such lines of one actor
 /// another line stands.
 #[derive(Drop)]
@@ -34,6 +34,7 @@ pub struct Shared<J: Run> {
     /// The last actor for which no thread could be made.
     unstarted: Option<ActorId>,
     ghost planned: { volume.plan ≡ J.plan },
+    ghost plain: { volume.crawl ≡ false },
     ghost counted: { ended.total ≡ works_ended volume.log },
     ghost noted: { AreNoted volume.log held },
     ghost eager: { AreEager volume.log } by { AreEager-prop volume.log },
@@ -53,6 +54,7 @@ pub enum After {
 impl<J: Run> Shared<J> {
     pub fn new(volume: Volume, ended: Book<J>) -> Shared<J>
         requires plan { volume.plan ≡ J.plan }
+        requires plain { volume.crawl ≡ false }
         requires fresh { volume.log ≡ [] }
         requires none { ended.total ≡ 0 }
     {

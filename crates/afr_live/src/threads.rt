@@ -1,5 +1,5 @@
 //! A thread for each actor, and what is done once they have ended.
-ghost use Rattle.std.specs.Prelude.{◌≡◌, ◌≤◌, ◌<◌, ◌+◌, IfOk, [], length};
+ghost use Rattle.std.specs.Prelude.{◌≡◌, ◌≤◌, ◌<◌, ◌+◌, IfOk, [], false, length};
 ghost use Rattle.afr_law_bound.specs.Ends.Law.{AreEager};
 ghost use Rattle.afr_live.specs.Ending.{EndsInAnyOrder};
 ghost use Rattle.afr_live.specs.Ends.{works_ended};
@@ -46,7 +46,9 @@ pub fn live<
     requires rule { IsRule F.Fn rules.now.heal }
     requires read_rule { IsRule G.Fn rules.now.read }
     requires fresh { volume.log ≡ [] }
+    requires plain { volume.crawl ≡ false }
     ensures plan { (volume_of result).plan ≡ volume.plan }
+    ensures plain { (volume_of result).crawl ≡ false }
     ensures complete { IfOk result (λ ran. IsComplete ran.0.plan ran.0.log) }
     ensures count { IfOk result (λ ran. ran.1 ≡ works_ended ran.0.log) }
     ensures ends { IfOk result (λ ran. EndsInAnyOrder ran.0.plan ran.0.log) }
@@ -90,7 +92,9 @@ fn live_as<
     requires rule { IsRule F.Fn rules.now.heal }
     requires read_rule { IsRule G.Fn rules.now.read }
     requires fresh { volume.log ≡ [] }
+    requires plain { volume.crawl ≡ false }
     ensures plan { (volume_of result).plan ≡ volume.plan }
+    ensures plain { (volume_of result).crawl ≡ false }
     ensures complete { IfOk result (λ ran. IsComplete ran.0.plan ran.0.log) }
     ensures count { IfOk result (λ ran. ran.1 ≡ works_ended ran.0.log) }
     ensures eager { AreEager (volume_of result).log }
@@ -313,6 +317,7 @@ fn finish<J: Run, R: Threads, F: Fn(&[Candidate]) -> usize, G: Fn(&[Candidate]) 
     requires own { 0 < tally.share.parts }
     requires parts { tally.share.parts + running.len ≡ J.parts }
     ensures plan { (volume_of result).plan ≡ J.plan }
+    ensures plain { (volume_of result).crawl ≡ false }
     ensures complete { IfOk result (λ ran. IsComplete ran.0.plan ran.0.log) }
     ensures count { IfOk result (λ ran. ran.1 ≡ works_ended ran.0.log) }
     ensures eager { AreEager (volume_of result).log }

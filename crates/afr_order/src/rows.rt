@@ -1,5 +1,5 @@
 //! The orders of the plan, and passes over all actors.
-ghost use Rattle.std.specs.Prelude.{◌≡◌, ◌≤◌, ◌<◌, ◌+◌, ◌^◌, ℕ, true, Ok, OnOk, IfOk, length};
+ghost use Rattle.std.specs.Prelude.{◌≡◌, ◌≤◌, ◌<◌, ◌+◌, ◌^◌, ℕ, true, false, Ok, OnOk, IfOk, length};
 ghost use Rattle.std.specs.List.{range_with_len};
 ghost use Rattle.afr_model.specs.Actors.{IsActor, is_done};
 ghost use Rattle.afr_model.specs.Complete.{IsComplete};
@@ -7,10 +7,11 @@ ghost use Rattle.afr_model.specs.Ordered.{actors_of, ordered_turns};
 ghost use Rattle.afr_order.specs.Onward.{Extends};
 ghost use Rattle.afr_rule.specs.Choosing.{IsRule};
 ghost use Rattle.afr_volume.specs.Right.{KeepsChosen};
-ghost use Rattle.afr_volume.specs.Going.{ClientsAreDone, Goes, TakesFront, TakesPasses, Ends, IsIdle};
+ghost use Rattle.afr_volume.specs.Going.{ClientsAreDone, ClientsRun, Goes, TakesFront, TakesPasses, Ends, IsIdle};
 
 use crate::turns::{take_turn, take_turns};
-use afr_base::{ActorId, FIRST_CLIENT, FIRST_HEALER, NoMemory};
+use afr_base::{ActorId, FIRST_CLIENT, FIRST_HEALER, MOST_CLIENTS, NoMemory};
+use afr_plan::Go;
 use afr_rule::{Candidate, Rules};
 use afr_volume::{Volume, come_due};
 
@@ -35,6 +36,47 @@ pub(crate) fn all_orders<F: Fn(&[Candidate]) -> usize, G: Fn(&[Candidate]) -> us
         }
     }
     Ok(true)
+}
+
+/// The orders of clients; those of healers are passed over. It answers whether the log had room.
+pub(crate) fn client_orders<F: Fn(&[Candidate]) -> usize, G: Fn(&[Candidate]) -> usize>(
+    volume: &mut Volume,
+    rules: &Rules<F, G>,
+) -> Result<bool, NoMemory>
+    requires rule { IsRule F.Fn rules.now.heal }
+    requires read_rule { IsRule G.Fn rules.now.read }
+    ensures goes { Goes volume.old volume.new }
+    ensures runs { ClientsRun volume.old volume.new }
+    ensures full { result ≡ Ok false → length volume.new.log ≡ volume.new.plan.turns }
+{
+    volume.every_line();
+    let count = volume.plan().go.len();
+    for i in 0..count {
+        let go = *volume.plan().go.item(i);
+        if !client_order(volume, go, rules)? {
+            return Ok(false);
+        }
+    }
+    Ok(true)
+}
+
+/// One order, where it is a client's. It answers whether the log had room.
+fn client_order<F: Fn(&[Candidate]) -> usize, G: Fn(&[Candidate]) -> usize>(
+    volume: &mut Volume,
+    go: Go,
+    rules: &Rules<F, G>,
+) -> Result<bool, NoMemory>
+    requires rule { IsRule F.Fn rules.now.heal }
+    requires read_rule { IsRule G.Fn rules.now.read }
+    requires actor { IsActor volume.old.plan go.actor.0 }
+    ensures goes { Goes volume.old volume.new }
+    ensures runs { ClientsRun volume.old volume.new }
+    ensures full { result ≡ Ok false → length volume.new.log ≡ volume.new.plan.turns }
+{
+    if go.actor.0 > MOST_CLIENTS {
+        return Ok(true);
+    }
+    take_turns(volume, go.actor, go.count, rules)
 }
 
 /// A turn of each of so many actors. It answers whether the log had room.
@@ -138,6 +180,7 @@ pub(crate) fn all_passes<F: Fn(&[Candidate]) -> usize, G: Fn(&[Candidate]) -> us
 ) -> Result<(), NoMemory>
     requires rule { IsRule F.Fn rules.now.heal }
     requires read_rule { IsRule G.Fn rules.now.read }
+    requires plain { volume.old.crawl ≡ false }
     ensures goes { Goes volume.old volume.new }
     ensures onto { Extends volume.old.log volume.new.log }
     ensures front { TakesPasses volume.old.plan volume.old.log volume.new.log }

@@ -4,7 +4,7 @@ ghost use Rattle.afr_model.specs.Actors.{IsActor, is_done};
 ghost use Rattle.afr_order.specs.Onward.{Extends};
 ghost use Rattle.afr_rule.specs.Choosing.{IsRule};
 ghost use Rattle.afr_volume.specs.Right.{KeepsChosen};
-ghost use Rattle.afr_volume.specs.Going.{Ends, Goes, TakesFront, goes_on_after};
+ghost use Rattle.afr_volume.specs.Going.{ClientsRun, Ends, Goes, TakesFront, goes_on_after};
 
 use afr_base::{ActorId, NoMemory};
 use afr_rule::{Candidate, Rules};
@@ -34,6 +34,7 @@ pub(crate) fn take_turn<F: Fn(&[Candidate]) -> usize, G: Fn(&[Candidate]) -> usi
     ensures ok { IfOk result (λ on. Ends (a.0 ∷ []) volume.old on volume.new) }
     ensures done { result ≡ Ok true → length volume.new.log ≤ length volume.old.log → is_done volume.new.plan a.0 volume.new.log ≡ true }
     ensures chosen { KeepsChosen F.Fn G.Fn rules.now volume.old volume.new }
+    ensures runs { a.0 ≤ 16 → ClientsRun volume.old volume.new }
 {
     come_due(volume)?;
     let turned = volume.turn(a, rules)?;
@@ -55,6 +56,7 @@ pub(crate) fn take_turns<F: Fn(&[Candidate]) -> usize, G: Fn(&[Candidate]) -> us
     ensures front { TakesFront volume.old.plan (replicate count a.0) volume.old.log volume.new.log }
     ensures ok { IfOk result (λ on. Ends (replicate count a.0) volume.old on volume.new) }
     ensures chosen { KeepsChosen F.Fn G.Fn rules.now volume.old volume.new }
+    ensures runs { a.0 ≤ 16 → ClientsRun volume.old volume.new }
 {
     for _taken in 0..count {
         let before = volume.len();

@@ -2,3 +2,4 @@ pub mod BrickLines
 pub mod Heals
 pub mod Own
 pub mod Summary
+pub mod Workers

@@ -1,5 +1,5 @@
 //! A plan is run in its order, and the same run is made again of its image.
-ghost use Rattle.std.specs.Prelude.{◌≡◌, [], OnOk};
+ghost use Rattle.std.specs.Prelude.{◌≡◌, [], OnOk, false};
 
 use afr_image::{Image, Step};
 use afr_law_runnable::every_spelled_plan_runs;
@@ -20,7 +20,8 @@ const QUIET: &str =
 
 /// Sets the volume up for a plan, with fewer turns than it says.
 fn set_up(alloc: Global, volume: &mut Volume, plan: &str) -> Result<(), Fail>
-    ensures { OnOk result (volume.new.log ≡ []) }
+    ensures fresh { OnOk result (volume.new.log ≡ []) }
+    ensures plain { OnOk result (volume.new.crawl ≡ false) }
 {
     let Ok(plan) = read_plan(alloc, plan.as_bytes()) else {
         return Err(Fail::from("refused"));
@@ -34,7 +35,9 @@ fn set_up(alloc: Global, volume: &mut Volume, plan: &str) -> Result<(), Fail>
 
 /// Runs the plan in its order.
 fn drives(volume: &mut Volume) -> Result<(), Fail>
-    requires { volume.old.log ≡ [] }
+    requires fresh { volume.old.log ≡ [] }
+    requires plain { volume.old.crawl ≡ false }
+    ensures { volume.new.crawl ≡ false }
 {
     let rules = Rules {
         heal: SourceRule::new(shipped::longest),
@@ -59,7 +62,9 @@ fn recorded(alloc: Global, plan: &str) -> Result<Image, Fail> {
 
 /// Makes the run of an image again, and answers how it ended.
 fn replays(volume: &mut Volume, image: &Image) -> Result<Replayed, Fail>
-    requires { volume.old.log ≡ [] }
+    requires fresh { volume.old.log ≡ [] }
+    requires plain { volume.old.crawl ≡ false }
+    ensures { volume.new.crawl ≡ false }
 {
     if image.steps.len() > volume.plan().turns as usize {
         return Err(Fail::from("turns"));
@@ -80,7 +85,9 @@ fn are_same(made: &[Step], steps: &[Step]) -> bool {
 }
 
 /// Whether the volume has the steps of the image.
-fn has_steps(alloc: Global, volume: &Volume, image: &Image) -> Result<bool, Fail> {
+fn has_steps(alloc: Global, volume: &Volume, image: &Image) -> Result<bool, Fail>
+    requires { volume.now.crawl ≡ false }
+{
     let Ok(again) = image_of(alloc, volume) else {
         return Err(Fail::from("memory"));
     };

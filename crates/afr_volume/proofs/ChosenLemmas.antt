@@ -108,7 +108,7 @@ module _ {E : Type 0} (crawl : Bool) (reads heals : Picks) (a : ActorId) (old ne
 pub event_chosen : (reads heals : Picks) (old new : State) → Comes old new → IsChosen reads heals old → IsChosen reads heals new
 event_chosen reads heals old new h k = rw h.added (record {
   of_reads = others_read reads old.plan old.log (line_of.Event h.event) old.picked old.picked tt (λ i client. refl) (λ i client. refl) k.of_reads;
-  of_heals = event_keeps heals old.plan old.log old.sources h.event k.of_heals;
+  of_heals = λ plain. event_keeps heals old.plan old.log old.sources h.event (k.of_heals plain);
 })
 
 -- ---- before the first line
@@ -123,11 +123,11 @@ answers_none reads brick e = rw e refl
 pub opened_chosen : (reads heals : Picks) (p : Plan) → IsChosen reads heals (opened p)
 opened_chosen reads heals p = record {
   of_reads = record { past = tt; present = λ i brick small is. answers_none reads brick (none_at (length p.clients) i brick is) };
-  of_heals = sources.none_chosen heals p (replicate (length p.healers) None);
+  of_heals = λ plain. sources.none_chosen heals p (replicate (length p.healers) None);
 }
 
 pub no_volume_chosen : (reads heals : Picks) → IsChosen reads heals no_volume
 no_volume_chosen reads heals = record {
   of_reads = record { past = tt; present = λ i brick small is. absurd (cc is) };
-  of_heals = sources.none_chosen heals no_volume.plan [];
+  of_heals = λ plain. sources.none_chosen heals no_volume.plan [];
 }

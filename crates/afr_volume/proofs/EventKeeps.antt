@@ -31,6 +31,7 @@ use Rattle.afr_volume.proofs.LineKeeps.{stays}
 use Rattle.afr_volume.proofs.ReadingLemmas.{reading_stays}
 use Rattle.afr_volume.proofs.LogLemmas.{reverse_push}
 use Rattle.afr_volume.proofs.PaceEvents.{event_paced}
+use Rattle.afr_volume.proofs.TaskLemmas.{killed_crawl}
 
 -- ---- the event that is due
 pub record IsDueNow (p : Plan) (log : List Line) (event : Event) : Type 0 where
@@ -118,6 +119,7 @@ whole_happened paces rounds laws p items added servers new actors after healers 
       rw (grown, reverse_push items (line_of.Event event))
       (healers_happen rounds laws p event (reverse items) servers new healers healers_after fits (laws.comes p (reverse items) event servers new w.kept.runnable.few w.kept.served meets).1 healers_killed w.healing);
   pacing = rw (grown, reverse_push items (line_of.Event event)) (event_paced paces p event (reverse items) actors after healers healers_after kills healers_killed w.pacing);
+  crawling = λ crawls. rw (grown, reverse_push items (line_of.Event event)) (killed_crawl p event (reverse items) healers healers_after healers_killed (w.crawling crawls));
 }
 
 -- ---- whom it kills is there

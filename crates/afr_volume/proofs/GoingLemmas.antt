@@ -14,13 +14,15 @@ use Rattle.afr_volume.specs.declared.turned.Turned.{Turned}
 use Rattle.afr_volume.specs.declared.turned.Turned.TheVariants.{Moved, Waits, Ended, Full}
 use Rattle.afr_law_bound.proofs.Ends.Runs.{done_more}
 use Rattle.afr_volume.specs.Going.{ClientsAreDone, Goes, IsHappening, Later, Still, Takes, TakesFront, Ends, goes_on_after}
+use Rattle.afr_volume.proofs.TaskDone.{done_by_plan}
 
 pub goes_nowhere : (s : State) → Goes s s
-goes_nowhere s = record { plan = refl; grows = omega arith; same = λ h. refl; stays = λ a d. d }
+goes_nowhere s = record { plan = refl; crawl = refl; grows = omega arith; same = λ h. refl; stays = λ a d. d }
 
 pub goes_then : (a b c : State) → Goes a b → Goes b c → Goes a c
 goes_then a b c f g = record {
   plan = g.plan ∙ f.plan;
+  crawl = g.crawl ∙ f.crawl;
   grows = omega (arith, f.grows, g.grows);
   same = λ h. g.same (omega (arith, f.grows, h)) ∙ f.same (omega (arith, g.grows, h));
   stays = λ a d. g.stays a (f.stays a d);
@@ -69,16 +71,17 @@ pub ends_then : (a b c : State) (xs ys : List ℕ) (on : Bool) → Goes a b → 
 ends_then a b c xs ys true g f t = takes_then a b c xs ys g f t
 ends_then a b c xs ys false g f t = t
 
-adds_goes : (old new : State) (line : Line) → new.plan ≡ old.plan → new.log ≡ line ∷ old.log → Goes old new
-adds_goes old new line same added = record {
+adds_goes : (old new : State) (line : Line) → new.plan ≡ old.plan → new.crawl ≡ old.crawl → new.log ≡ line ∷ old.log → Goes old new
+adds_goes old new line same goes added = record {
   plan = same;
+  crawl = goes;
   grows = omega (arith, ap length added);
   same = λ h. absurd (omega (arith, h, ap length added));
   stays = λ a d. rw (same, added) (done_more old.plan a line old.log d);
 }
 
 pub event_goes : (old new : State) → Comes old new → Goes old new
-event_goes old new h = adds_goes old new _ (ap (λ (s : State). s.plan) h.added) (ap (λ (s : State). s.log) h.added)
+event_goes old new h = adds_goes old new _ (ap (λ (s : State). s.plan) h.added) (ap (λ (s : State). s.crawl) h.added) (ap (λ (s : State). s.log) h.added)
 
 pub event_takes : (old new : State) → Comes old new → Takes old.plan [] old.log new.log
 event_takes old new h = rw h.added (record { written = λ before w. rw append-nil (Happens before old.log _ w refl) })
@@ -87,15 +90,15 @@ turn_moves : (a : ActorId) (old new : State) (waits : Option ActorId) → AddsLi
 turn_moves a old new waits h = rw h.added (record { written = λ before w. Moves before old.log a.0 h.line w h.own })
 
 pub turn_goes : (a : ActorId) (old new : State) (turned : Turned) → Turns a old turned new → Goes old new
-turn_goes a old new Moved h = adds_goes old new h.line h.plan h.added
-turn_goes a old new (Waits owner) h = adds_goes old new h.line h.plan h.added
+turn_goes a old new Moved h = adds_goes old new h.line h.plan h.crawl h.added
+turn_goes a old new (Waits owner) h = adds_goes old new h.line h.plan h.crawl h.added
 turn_goes a old new Ended h = rw h.1 (goes_nowhere old)
 turn_goes a old new Full h = rw h.2 (goes_nowhere old)
 
 pub turn_ends : (a : ActorId) (old new : State) (turned : Turned) → Turns a old turned new → Ends (a.0 ∷ []) old (goes_on_after turned) new
 turn_ends a old new Moved h = turn_moves a old new None h
 turn_ends a old new (Waits owner) h = turn_moves a old new (Some owner) h
-turn_ends a old new Ended h = rw h.1 (record { written = λ before w. PassesOver before old.log a.0 w h.0 })
+turn_ends a old new Ended h = rw h.1 (record { written = λ before w. PassesOver before old.log a.0 w (done_by_plan a.0 old h.0) })
 turn_ends a old new Full h = rw h.2 h.0
 
 pub turn_front : (a : ActorId) (old new : State) (turned : Turned) → Turns a old turned new → TakesFront old.plan (a.0 ∷ []) old.log new.log
@@ -107,7 +110,7 @@ turn_front a old new Ended h = front_whole old.plan old.log new.log (a.0 ∷ [])
 pub turn_done : (a : ActorId) (old new : State) (turned : Turned) → Turns a old turned new → goes_on_after turned ≡ true → length new.log ≤ length old.log → is_done new.plan a.0 new.log ≡ true
 turn_done a old new Moved h t l = absurd (omega (arith, l, ap length h.added))
 turn_done a old new (Waits owner) h t l = absurd (omega (arith, l, ap length h.added))
-turn_done a old new Ended h t l = rw h.1 h.0
+turn_done a old new Ended h t l = rw h.1 (done_by_plan a.0 old h.0)
 turn_done a old new Full h t l = cc
 
 pub ends_true : (a b : State) (xs : List ℕ) (on : Bool) → on ≡ true → Ends xs a on b → Takes a.plan xs a.log b.log

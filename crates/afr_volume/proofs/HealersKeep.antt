@@ -1,5 +1,5 @@
 -- Healers: a line of one keeps what a volume keeps, and all other lines leave them as they were.
-use Rattle.std.proofs.Common.{◌≡◌, ◌≢◌, ◌∙◌, ℕ, zero, suc, ◌+◌, ◌-◌, ◌<◌, ◌≤◌, ◌==◌, ◌||◌, ◌⊎◌, Bool, true, false, List, [], ◌∷◌, refl, sym, ap, arith, subst, length, Some, slice_get, set, get_or, length-set, inl, inr}
+use Rattle.std.proofs.Common.{◌≡◌, ◌≢◌, ◌∙◌, ℕ, zero, suc, ◌+◌, ◌-◌, ◌<◌, ◌≤◌, ◌==◌, ◌||◌, ◌⊎◌, not, Bool, true, false, List, [], ◌∷◌, refl, sym, ap, arith, subst, length, Some, slice_get, set, get_or, length-set, inl, inr}
 use Rattle.std.proofs.lemmas.Bool.Decides.{eqb_tells}
 use Rattle.std.proofs.lemmas.Option.{slice_get-get_or, slice_get_within}
 use Rattle.afr_base.specs.declared.ids.ActorId.{ActorId}
@@ -11,24 +11,26 @@ use Rattle.afr_lines.specs.declared.line.Event.{Event}
 use Rattle.afr_lines.specs.declared.line.Line.{Line}
 use Rattle.afr_lines.specs.declared.line.Line.TheVariants as line_of
 use Rattle.afr_model.specs.Actors.{IsActor, rounds_of}
+use Rattle.afr_model.specs.Crawl.{CanCrawl}
 use Rattle.afr_model.specs.Following.{NoneDue}
 use Rattle.afr_model.specs.Kept.{IsKept}
 use Rattle.afr_model_moves.specs.Ranges.{InRange}
 use Rattle.afr_plan.specs.declared.plan.Plan.{Plan}
 use Rattle.afr_healer.specs.Acting.{Stepped}
 use Rattle.afr_healer.specs.Keeping.{IsHealer}
-use Rattle.afr_healer.specs.Laws.{IsBeforeRound, IsBeside, IsMadeReady, IsWritten, Round, RoundKeeps}
+use Rattle.afr_healer.specs.Laws.{Crawl, IsBeforeRound, IsBeside, IsMadeReady, IsWritten, MayAsk, Round, RoundKeeps}
 use Rattle.afr_healer.specs.Laws as rounds
 use Rattle.afr_healer.specs.declared.healer.Healer.{Healer}
 use Rattle.afr_server.specs.Serving.{Serving}
 use Rattle.afr_servers.specs.Log.{AreFound}
 use Rattle.afr_servers.specs.declared.epochs.Epochs.{Epochs}
 use Rattle.afr_law_next.specs.Turn.{Stood}
-use Rattle.afr_volume.specs.Keeping.{AreHealers, IsActing, IsVolume, IsWhole}
+use Rattle.afr_volume.specs.Keeping.{AreCrawling, AreHealers, IsActing, IsVolume, IsWhole}
 use Rattle.afr_volume.specs.Laws.{EventLaws, RoundLaws}
 use Rattle.afr_volume.specs.Pacing.{ArePaced}
 use Rattle.afr_volume.specs.Turning.{KillsHealersIn, ReadiedHealerAt}
 use Rattle.afr_volume.specs.declared.actor.Actor.{Actor}
+use Rattle.afr_volume.proofs.TaskLemmas.{no_rounds}
 use Rattle.afr_volume.proofs.LineKeeps.{Asks, Ends, Heals, Parts, Wrote, other_ended, other_place, other_work, others_stay, wrote_due, wrote_killed, wrote_made, wrote_other}
 
 -- ---- one healer among all
@@ -165,14 +167,15 @@ module _ {crawl : Bool} (laws : RoundLaws) (p : Plan) (a : ActorId) (log : List 
     names = (names_no p a line log round_keeps.written, w.kept.names);
   }
 
-  pub kept_round : IsActor p a.0 → is_killed a.0 log ≡ false → NoneDue p log → ArePaced p (line ∷ log) actors (set healers (a.0 - 17) y) → IsWhole crawl p (line ∷ log) new actors (set healers (a.0 - 17) y) made
-  kept_round actor alive none paced = record {
+  pub kept_round : IsActor p a.0 → is_killed a.0 log ≡ false → NoneDue p log → ArePaced p (line ∷ log) actors (set healers (a.0 - 17) y) → (crawl ≡ true → AreCrawling p (line ∷ log) (set healers (a.0 - 17) y)) → IsWhole crawl p (line ∷ log) new actors (set healers (a.0 - 17) y) made
+  kept_round actor alive none paced crawling = record {
     kept = kept_line actor alive none;
     healing = record {
       same = length-set healers (a.0 - 17) y ∙ w.healing.same;
       each = λ i z h. each i z h (eqb_tells a.0 (17 + i));
     };
     pacing = paced;
+    crawling = crawling;
   }
     where
       each : (i : ℕ) (z : Healer) → slice_get (set healers (a.0 - 17) y) i ≡ Some z → ((a.0 == 17 + i) ≡ true) × (a.0 ≡ 17 + i) ⊎ ((a.0 == 17 + i) ≡ false) × (a.0 ≢ 17 + i) → IsHealer crawl p (line ∷ log) (17 + i) new z
@@ -187,27 +190,33 @@ module _ {crawl : Bool} (laws : RoundLaws) (p : Plan) (a : ActorId) (log : List 
           (w.healing.each i z (got_other healers (a.0 - 17) i y z apart h))
 
 -- ---- a healer is made ready
-module _ (laws : RoundLaws) (p : Plan) (a : ℕ) (log : List Line) (servers : List Serving) (healers new : List Healer) (healer : 17 ≤ a) (few : p.shape.n ≤ 5) (rounds : (k : ℕ) (b : BrickId) → slice_get (rounds_of p a) k ≡ Some b → b.0 < p.shape.n)
-    (k : AreHealers false p log servers healers) (r : ReadiedHealerAt p a healers new) where
-  was : IsHealer false p log a servers r.before
-  was = (let again : 17 + (a - 17) ≡ a = omega (arith, healer) in subst (λ (c : ℕ). IsHealer false p log c servers r.before) again (k.each (a - 17) r.before r.was))
+-- a round that begins heals what it lists, but where they crawl; then it is the first healer's
+may_ask : (crawl : Bool) (p : Plan) (a k : ℕ) (b : BrickId) → 17 ≤ a → a < 20 → (crawl ≡ true → CanCrawl p) → slice_get (rounds_of p a) k ≡ Some b → MayAsk a crawl (not crawl)
+may_ask false p a k b low high can is = Round
+may_ask true p a k b low high can is = Crawl (by (eqb_tells a 17))
+  where
+    by : ((a == 17) ≡ true) × (a ≡ 17) ⊎ ((a == 17) ≡ false) × (a ≢ 17) → a ≡ 17
+    by (inl e) = e.1
+    by (inr e) = let other = e.1 in absurd (no_rounds p a k b (can refl) (omega (arith, other, low), omega (arith, high)) is)
 
-  pub low_brick : r.brick.0 < p.shape.n
-  low_brick = rounds r.before.ended r.brick r.present
+module _ {crawl : Bool} (laws : RoundLaws) (p : Plan) (a : ℕ) (log : List Line) (servers : List Serving) (healers new : List Healer) (healer : 17 ≤ a) (high : a < 20) (few : p.shape.n ≤ 5) (rounds : (k : ℕ) (b : BrickId) → slice_get (rounds_of p a) k ≡ Some b → b.0 < p.shape.n)
+    (can : crawl ≡ true → CanCrawl p) (k : AreHealers crawl p log servers healers) (r : ReadiedHealerAt crawl p a healers new) where
+  was : IsHealer crawl p log a servers r.before
+  was = (let again : 17 + (a - 17) ≡ a = omega (arith, healer) in subst (λ (c : ℕ). IsHealer crawl p log c servers r.before) again (k.each (a - 17) r.before r.was))
 
-  begun : IsHealer false p log a servers r.after × IsMadeReady r.after
-  begun = laws.begins false true p a log servers r.brick r.before r.after few (λ idle. (low_brick, Round, rw was.ended_is at r.present)) was r.readies
+  begun : IsHealer crawl p log a servers r.after × IsMadeReady r.after
+  begun = laws.begins crawl (not crawl) p a log servers r.brick r.before r.after few (λ idle. (rounds r.before.ended r.brick (r.present idle), may_ask crawl p a r.before.ended r.brick healer high can (r.present idle), rw was.ended_is at (r.present idle))) was r.readies
 
   pub ready_healer : (x : Healer) → slice_get new (a - 17) ≡ Some x → IsMadeReady x
   ready_healer x is = (let same : x ≡ r.after = got_same healers (a - 17) r.after x (slice_get_within healers (a - 17) r.before r.was) (rw r.set_is at is) in subst IsMadeReady (sym same) begun.1)
 
-  pub kept_healer : AreHealers false p log servers new
+  pub kept_healer : AreHealers crawl p log servers new
   kept_healer = record {
     same = ap length r.set_is ∙ length-set healers (a - 17) r.after ∙ k.same;
     each = λ i z h. each i z (rw r.set_is at h) (eqb_tells a (17 + i));
   }
     where
-      each : (i : ℕ) (z : Healer) → slice_get (set healers (a - 17) r.after) i ≡ Some z → ((a == 17 + i) ≡ true) × (a ≡ 17 + i) ⊎ ((a == 17 + i) ≡ false) × (a ≢ 17 + i) → IsHealer false p log (17 + i) servers z
+      each : (i : ℕ) (z : Healer) → slice_get (set healers (a - 17) r.after) i ≡ Some z → ((a == 17 + i) ≡ true) × (a ≡ 17 + i) ⊎ ((a == 17 + i) ≡ false) × (a ≢ 17 + i) → IsHealer crawl p log (17 + i) servers z
       each i z h (inl e) =
           let at_i : a - 17 ≡ i = omega (arith, e.1) in
           let is_after : z ≡ r.after = got_same healers (a - 17) r.after z (slice_get_within healers (a - 17) r.before r.was) (rw (← at_i) at h) in

@@ -4,6 +4,12 @@ mod EventKeeps
 mod FreshReads
 mod LineKeeps
 mod LogLemmas
+mod TaskLemmas
+mod TaskSteps
+mod TaskTurn
+pub mod TaskDone
+mod TaskBegins
+mod ListLemmas
 mod Opening
 mod ReadyLemmas
 mod Runs
@@ -28,4 +34,5 @@ mod PaceRounds
 mod PaceEvents
 pub mod GoingLemmas
 pub mod DoneLemmas
+pub mod PlainLemmas
 pub mod PresumedLemmas

@@ -1,5 +1,5 @@
 -- What a volume keeps before its first line.
-use Rattle.std.proofs.Common.{◌≡◌, ℕ, ◌+◌, List, [], refl, arith, length, sym, ◌∙◌, Bool}
+use Rattle.std.proofs.Common.{◌≡◌, ℕ, ◌+◌, List, [], refl, arith, length, sym, ◌∙◌, Bool, false}
 use Rattle.afr_lines.specs.declared.line.Line.{Line}
 use Rattle.afr_plan.specs.declared.plan.Plan.{Plan}
 use Rattle.afr_server.specs.Serving.{Serving}
@@ -52,10 +52,11 @@ opens_resting p servers a x k = record {
   carries = rw k.idle (record { unmet = k.met; fresh = refl; none = refl });
 }
 
-pub fresh_whole : {crawl : Bool} (paces : PaceLaws) (laws : NewAreServed) (p : Plan) (log : List Line) (servers : List Serving) (actors : List Actor) (healers : List Healer) → CanRun p → log ≡ [] → AreNew p servers → AreNewActors (length p.clients) actors → AreNewHealers (length p.healers) healers
-    → IsWhole crawl p log servers actors healers 0
+pub fresh_whole : (paces : PaceLaws) (laws : NewAreServed) (p : Plan) (log : List Line) (servers : List Serving) (actors : List Actor) (healers : List Healer) → CanRun p → log ≡ [] → AreNew p servers → AreNewActors (length p.clients) actors → AreNewHealers (length p.healers) healers
+    → IsWhole false p log servers actors healers 0
 fresh_whole paces laws p log servers actors healers run none opened idle resting = record {
   kept = fresh_volume laws p log servers actors run none opened idle;
   healing = rw none (record { same = resting.many; each = λ i x h. opens_resting p servers (17 + i) x (resting.each i x h) });
   pacing = rw none (fresh_paced paces p actors healers idle resting);
+  crawling = λ crawls. absurd (cc crawls);
 }

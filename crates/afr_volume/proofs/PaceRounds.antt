@@ -1,5 +1,5 @@
 -- A healer's turn keeps the pace of all actors.
-use Rattle.std.proofs.Common.{◌≡◌, ℕ, ◌+◌, ◌-◌, ◌<◌, ◌≤◌, List, ◌∷◌, Bool, true, sym, arith, subst, length, Some, slice_get, set}
+use Rattle.std.proofs.Common.{◌≡◌, ℕ, ◌+◌, ◌-◌, ◌<◌, ◌≤◌, List, ◌∷◌, Bool, true, sym, arith, subst, length, Some, slice_get, set, not}
 use Rattle.std.proofs.lemmas.Option.{slice_get_within}
 use Rattle.afr_base.specs.declared.ids.ActorId.{ActorId}
 use Rattle.afr_law_bound.specs.Ends.Cost.{IsWithinCost, objects_of}
@@ -24,7 +24,7 @@ use Rattle.afr_volume.proofs.PaceAll.{set_each}
 use Rattle.afr_volume.proofs.PaceTurns.{is_of_plan, other_paced}
 
 -- a healer is made ready
-pub ready_rounds : {crawl : Bool} (paces : PaceLaws) (p : Plan) (a : ℕ) (log : List Line) (servers : List Serving) (actors : List Actor) (healers new : List Healer) → AreHealers crawl p log servers healers → ReadiedHealerAt p a healers new → ArePaced p log actors healers → ArePaced p log actors new
+pub ready_rounds : {crawl : Bool} (paces : PaceLaws) (p : Plan) (a : ℕ) (log : List Line) (servers : List Serving) (actors : List Actor) (healers new : List Healer) → AreHealers crawl p log servers healers → ReadiedHealerAt crawl p a healers new → ArePaced p log actors healers → ArePaced p log actors new
 ready_rounds {crawl = crawl} paces p a log servers actors healers new h r k = record {
   clients = k.clients;
   rounds = rw r.set_is (set_each (λ (i : ℕ) (z : Healer). IsPacedRound p (17 + i) log z.round) healers (a - 17) r.after (λ i z apart is. k.rounds i z is) own);
@@ -33,7 +33,7 @@ ready_rounds {crawl = crawl} paces p a log servers actors healers new h r k = re
 }
   where
     own : IsPacedRound p (17 + (a - 17)) log r.after.round
-    own = paces.ready crawl true p (17 + (a - 17)) log servers r.brick r.before r.after (omega arith) (h.each (a - 17) r.before r.was) r.readies (k.rounds (a - 17) r.before r.was)
+    own = paces.ready crawl (not crawl) p (17 + (a - 17)) log servers r.brick r.before r.after (omega arith) (h.each (a - 17) r.before r.was) r.readies (k.rounds (a - 17) r.before r.was)
 
 -- and its line is written
 module _ {crawl : Bool} (paces : PaceLaws) (p : Plan) (a : ActorId) (log : List Line) (servers new : List Serving) (actors : List Actor) (healers : List Healer) (made : ℕ) (line : Line) (x y : Healer) (w : IsWhole crawl p log servers actors healers made)

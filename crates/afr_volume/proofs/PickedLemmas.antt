@@ -19,6 +19,8 @@ use Rattle.afr_volume.specs.Starting.{AreNewActors}
 use Rattle.afr_volume.specs.State.{State}
 use Rattle.afr_volume.specs.Turning.{KillsIn, ReadiedAt, Readies, StepsAt}
 use Rattle.afr_volume.specs.declared.actor.Actor.{Actor}
+use Rattle.afr_base.specs.declared.ids.Gfid.{Gfid}
+use Rattle.afr_base.specs.declared.ids.What.{What}
 
 -- ---- what was picked is kept beside the work that has heard it
 pub heard_so : {F : Type 0} (calls : Calls F) (choose : F) (answer : Answer) (at : ℕ) (met : Bool) (request : Request) (x : Actor) (after : WorkMachine) (now kept : Option BrickId) → RuleAnswers calls choose (choices_of answer at x.work) now → after ≡ heard_by (reader_of now) (heard.Answer answer at) x.work
@@ -68,9 +70,10 @@ pub readied_picked : (p : Plan) (a : ℕ) (actors readied : List Actor) → Read
 readied_picked p a actors readied r = ap picked_of r.set_is ∙ set_same actors (a - 1) r.before r.after r.was (ready_same p a r.before r.after r.readies)
 
 -- so a volume whose client was made ready and wrote no line is as before
-pub unwritten : (p : Plan) (a : ℕ) (items kept : List Line) (sources : List (Option ℕ)) (actors readied now : List Actor) → ReadiedAt p a actors readied → now ≡ readied → kept ≡ items
-    → ◌≡◌ {A = State} (record { plan = p; log = reverse kept; sources = sources; picked = picked_of now }) (record { plan = p; log = reverse items; sources = sources; picked = picked_of actors })
-unwritten p a items kept sources actors readied now r same none = rw (none, same, readied_picked p a actors readied r) refl
+pub unwritten : (crawl : Bool) (tasks : List (Option (Gfid × What))) (p : Plan) (a : ℕ) (items kept : List Line) (sources : List (Option ℕ)) (actors readied now : List Actor) → ReadiedAt p a actors readied → now ≡ readied → kept ≡ items
+    → ◌≡◌ {A = State} (record { plan = p; log = reverse kept; sources = sources; picked = picked_of now; crawl = crawl; tasks = tasks })
+    (record { plan = p; log = reverse items; sources = sources; picked = picked_of actors; crawl = crawl; tasks = tasks })
+unwritten crawl tasks p a items kept sources actors readied now r same none = rw (none, same, readied_picked p a actors readied r) refl
 
 -- ---- a client's line leaves what was picked for the others
 pub other_set : (l : List (Option ℕ)) (i j : ℕ) (y : Option ℕ) → (i ≡ j → ⊥) → slice_get (slice_set l j y) i ≡ slice_get l i

@@ -85,6 +85,7 @@ pub can_run : (p : Plan) → IsRunnable p → CanRun p
 can_run p k = record {
   few = few_bricks p k;
   some = λ h. some_bricks p k;
+  healed = λ h. some_bricks p k;
   turns = k.turns;
   clients = k.clients;
   healers = k.healers;

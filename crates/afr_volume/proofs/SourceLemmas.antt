@@ -1,5 +1,5 @@
 -- The sources of the healers' running heals: what each turn leaves of them.
-use Rattle.std.proofs.Common.{◌≡◌, ◌∙◌, ℕ, zero, suc, ◌+◌, ◌-◌, ◌≤◌, ◌==◌, Bool, true, false, List, [], ◌∷◌, Option, Some, None, Result, Ok, Err, OnErr, refl, sym, ap, arith, subst, slice_get, slice_set, replicate, reverse, length, ◌++◌}
+use Rattle.std.proofs.Common.{◌≡◌, ◌∙◌, ℕ, zero, suc, ◌+◌, ◌-◌, ◌≤◌, ◌==◌, Bool, true, false, List, [], ◌∷◌, Option, Some, None, Result, Ok, Err, OnErr, refl, sym, ap, arith, subst, slice_get, slice_set, replicate, reverse, length, ◌++◌, not, ◌<◌}
 use Rattle.std.proofs.lemmas.Bool.Decides.{nat_tests}
 use Rattle.afr_base.specs.declared.ids.ActorId.{ActorId}
 use Rattle.afr_base.specs.declared.ids.BrickId.{BrickId}
@@ -26,7 +26,7 @@ use Rattle.afr_law_picks.specs.Sources.Chosen.{AreChosen}
 use Rattle.afr_law_picks.specs.Sources.Sources.{picked_source, source_at, source_in, sources_of}
 use Rattle.afr_volume.specs.Acting.{picked_of}
 use Rattle.afr_volume.specs.Starting.{AreNewActors, AreNewHealers}
-use Rattle.afr_volume.specs.State.{HealsChosen, State, opened}
+use Rattle.afr_volume.specs.State.{HealsChosen, State, opened, no_tasks, opened_for}
 use Rattle.afr_volume.specs.Turning.{AddsLine, Comes, KillsHealersIn, KillsIn, ReadiedHealerAt, StepsHealerAt, Turns, due_at}
 use Rattle.afr_volume.specs.declared.actor.Actor.{Actor}
 use Rattle.afr_volume.specs.declared.turned.Turned.{Turned}
@@ -34,15 +34,20 @@ use Rattle.afr_volume.specs.declared.turned.Turned.TheVariants.{Ended, Full, Mov
 use Rattle.afr_volume.proofs.LineKeeps.{ends_none}
 use Rattle.afr_volume.proofs.LogLemmas.{reverse_push}
 use Rattle.afr_volume.proofs.PickedLemmas.{killed_picked, new_picked}
+use Rattle.afr_base.specs.declared.ids.What.{What}
+use Rattle.afr_model.specs.Crawl.{CanCrawl}
+use Rattle.afr_volume.specs.Tasks.{tasks_of}
+use Rattle.afr_volume.proofs.TaskLemmas.{killed_tasks, readied_tasks}
 
 -- ---- a healer that is made ready has the source that it had
-pub readied_sources : (p : Plan) (a : ℕ) (healers readied : List Healer) → ReadiedHealerAt p a healers readied → sources_of readied ≡ sources_of healers
-readied_sources p a healers readied r = ap sources_of r.set_is ∙ set_same healers (a - 17) r.before r.after r.was (ready_same p.shape true r.brick r.before r.after r.readies)
+pub readied_sources : {crawl : Bool} (p : Plan) (a : ℕ) (healers readied : List Healer) → ReadiedHealerAt crawl p a healers readied → sources_of readied ≡ sources_of healers
+readied_sources {crawl = crawl} p a healers readied r = ap sources_of r.set_is ∙ set_same healers (a - 17) r.before r.after r.was (ready_same p.shape (not crawl) r.brick r.before r.after r.readies)
 
 -- so a volume whose healer was made ready and wrote no line is as before
-pub unwritten : (p : Plan) (a : ℕ) (items kept : List Line) (picked : List (Option ℕ)) (healers readied now : List Healer) → ReadiedHealerAt p a healers readied → now ≡ readied → kept ≡ items
-    → ◌≡◌ {A = State} (record { plan = p; log = reverse kept; sources = sources_of now; picked = picked }) (record { plan = p; log = reverse items; sources = sources_of healers; picked = picked })
-unwritten p a items kept picked healers readied now r same none = rw (none, same, readied_sources p a healers readied r) refl
+pub unwritten : (crawl : Bool) (p : Plan) (a : ℕ) (items kept : List Line) (picked : List (Option ℕ)) (healers readied now : List Healer) → (crawl ≡ true → CanCrawl p) → 17 ≤ a → a < 20 → ReadiedHealerAt crawl p a healers readied → now ≡ readied → kept ≡ items
+    → ◌≡◌ {A = State} (record { plan = p; log = reverse kept; sources = sources_of now; picked = picked; crawl = crawl; tasks = tasks_of crawl now })
+    (record { plan = p; log = reverse items; sources = sources_of healers; picked = picked; crawl = crawl; tasks = tasks_of crawl healers })
+unwritten crawl p a items kept picked healers readied now can low high r same none = rw (none, same, readied_sources p a healers readied r, readied_tasks crawl p a healers readied can low high r) refl
 
 pub whatever : {A E P : Type 0} (result : Result A E) → P → OnErr result P
 whatever (Ok x) k = tt
@@ -68,17 +73,17 @@ pub all_rest_first : {crawl : Bool} (p : Plan) (log : List Line) (servers : List
     → sources_of healers ≡ replicate (length p.healers) None
 all_rest_first {crawl = crawl} p log servers healers same each none = rw (← same) (all_none healers (λ i x h. let k : IsHealer crawl p [] (17 + i) servers x = rw none at (each i x h) in rests crawl p (17 + i) x.visit.met x.visit.epochs servers x.round k.carries))
 
-pub rested_state : (p : Plan) (log : List Line) (sources picked : List (Option ℕ)) → log ≡ [] → sources ≡ replicate (length p.healers) None → picked ≡ replicate (length p.clients) None
-    → record { plan = p; log = log; sources = sources; picked = picked } ≡ opened p
-rested_state p log sources picked none resting unpicked = rw (none, resting, unpicked) refl
+pub rested_state : (crawl : Bool) (p : Plan) (log : List Line) (sources picked : List (Option ℕ)) (tasks : List (Option (Gfid × What))) → log ≡ [] → sources ≡ replicate (length p.healers) None → picked ≡ replicate (length p.clients) None → tasks ≡ no_tasks crawl
+    → record { plan = p; log = log; sources = sources; picked = picked; crawl = crawl; tasks = tasks } ≡ opened_for crawl p
+rested_state crawl p log sources picked tasks none resting unpicked idle = rw (none, resting, unpicked, idle) refl
 
 fresh_source : (x : Healer) → IsNewHealer x → picked_source x ≡ None
 fresh_source x k = rw k.idle refl
 
 pub new_state : (p : Plan) (log : List Line) (healers : List Healer) (actors : List Actor) → log ≡ [] → AreNewHealers (length p.healers) healers → AreNewActors (length p.clients) actors
-    → record { plan = p; log = log; sources = sources_of healers; picked = picked_of actors } ≡ opened p
+    → record { plan = p; log = log; sources = sources_of healers; picked = picked_of actors; crawl = false; tasks = [] } ≡ opened p
 new_state p log healers actors none k new =
-    rested_state p log (sources_of healers) (picked_of actors) none (all_none healers (λ i x h. fresh_source x (k.each i x h)) ∙ ap (λ (n : ℕ). replicate n None) k.many) (new_picked (length p.clients) actors new)
+    rested_state false p log (sources_of healers) (picked_of actors) [] none (all_none healers (λ i x h. fresh_source x (k.each i x h)) ∙ ap (λ (n : ℕ). replicate n None) k.many) (new_picked (length p.clients) actors new) refl
 
 -- ---- a client's turn
 pub own_of : (a : ℕ) (line : Line) → is_of a line ≡ true → (c : ℕ) → is_of c line ≡ (a == c)
@@ -112,9 +117,10 @@ client_adds crawl picks a old new waits small h follows k =
     let plan : new.plan ≡ old.plan = h.plan in
     let added : new.log ≡ h.line ∷ old.log = h.added in
     let f : Follows crawl old.plan (h.line ∷ old.log) = rw (plan, added) at follows in
+    λ plain.
     rw (plan, added)
     (same_sources picks old.plan (h.line ∷ old.log) old.sources new.sources (λ i. h.others i (λ same. absurd (omega (arith, small, same))))
-    (client_keeps picks old.plan old.log old.sources a h.line small (own_of a.0 h.line h.own) (client_unended crawl old.plan a.0 h.line old.log small h.own f.0) k))
+    (client_keeps picks old.plan old.log old.sources a h.line small (own_of a.0 h.line h.own) (client_unended crawl old.plan a.0 h.line old.log small h.own f.0) (k (sym h.crawl ∙ plain))))
 
 pub client_turn : (crawl : Bool) (picks : Picks) (a : ActorId) (old new : State) (turned : Turned) → a.0 ≤ 16 → Turns a old turned new → Follows crawl new.plan new.log → HealsChosen picks old → HealsChosen picks new
 client_turn crawl picks a old new Moved small h follows k = client_adds crawl picks a old new None small h follows k
@@ -131,7 +137,7 @@ other_set (x ∷ l) zero (suc j) y other = refl
 other_set (x ∷ l) (suc i) zero y other = refl
 other_set (x ∷ l) (suc i) (suc j) y other = other_set l i j y (λ same. other (ap suc same))
 
-pub healer_others : (Hears : Hearing) (p : Plan) (a : ActorId) (at : ℕ) (healers readied new : List Healer) (bricks after : List Serving) (line : Line) → 17 ≤ a.0 → ReadiedHealerAt p a.0 healers readied → StepsHealerAt Hears a at readied new bricks after line
+pub healer_others : {crawl : Bool} (Hears : Hearing) (p : Plan) (a : ActorId) (at : ℕ) (healers readied new : List Healer) (bricks after : List Serving) (line : Line) → 17 ≤ a.0 → ReadiedHealerAt crawl p a.0 healers readied → StepsHealerAt Hears a at readied new bricks after line
     → (i : ℕ) → (17 + i ≡ a.0 → ⊥) → slice_get (sources_of new) i ≡ slice_get (sources_of healers) i
 healer_others Hears p a at healers readied new bricks after line low r s i other =
     let set_is : sources_of new ≡ slice_set (sources_of readied) (a.0 - 17) (picked_source s.after) = ap sources_of s.set_is ∙ set_source readied (a.0 - 17) s.after in
@@ -142,7 +148,8 @@ healer_others Hears p a at healers readied new bricks after line low r s i other
 killed_sources : (event : Event) (old new : List Healer) → KillsHealersIn event old new → sources_of new ≡ sources_of old
 killed_sources event old new k = each_same old new k.count (λ i x y is at. ap picked_source (k.each i x y is at))
 
-pub comes : (p : Plan) (items added : List Line) (healers after : List Healer) (actors actors_after : List Actor) (event : Event) → due_at p (reverse items) ≡ Some event → added ≡ items ++ line_of.Event event ∷ [] → KillsHealersIn event healers after → KillsIn event actors actors_after
-    → Comes (record { plan = p; log = reverse items; sources = sources_of healers; picked = picked_of actors }) (record { plan = p; log = reverse added; sources = sources_of after; picked = picked_of actors_after })
-comes p items added healers after actors actors_after event due grown killed actors_killed =
-    rw (grown, reverse_push items (line_of.Event event), killed_sources event healers after killed, killed_picked event actors actors_after actors_killed) (record { event = event; is_due = due; added = refl })
+pub comes : (crawl : Bool) (p : Plan) (items added : List Line) (healers after : List Healer) (actors actors_after : List Actor) (event : Event) → due_at p (reverse items) ≡ Some event → added ≡ items ++ line_of.Event event ∷ [] → KillsHealersIn event healers after → KillsIn event actors actors_after
+    → Comes (record { plan = p; log = reverse items; sources = sources_of healers; picked = picked_of actors; crawl = crawl; tasks = tasks_of crawl healers })
+    (record { plan = p; log = reverse added; sources = sources_of after; picked = picked_of actors_after; crawl = crawl; tasks = tasks_of crawl after })
+comes crawl p items added healers after actors actors_after event due grown killed actors_killed =
+    rw (grown, reverse_push items (line_of.Event event), killed_sources event healers after killed, killed_picked event actors actors_after actors_killed, killed_tasks crawl event healers after killed) (record { event = event; is_due = due; added = refl })

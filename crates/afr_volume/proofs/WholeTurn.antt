@@ -20,22 +20,26 @@ use Rattle.afr_plan.specs.declared.plan.Plan.{Plan}
 use Rattle.afr_model.specs.Actors.{IsActor, is_done, works_of, script_of}
 use Rattle.afr_model.specs.Following.{NoneDue}
 use Rattle.afr_volume.specs.Acting.{CanStep, HearsAny, Stepped}
-use Rattle.afr_volume.specs.Keeping.{AreHealers, CanRun, Carries, IsActing, IsVolume, IsWhole}
+use Rattle.afr_volume.specs.Keeping.{AreCrawling, AreHealers, CanRun, Carries, IsActing, IsVolume, IsWhole}
 use Rattle.afr_volume.specs.Laws.{BeginLaws, Laws, RoundLaws}
 use Rattle.afr_volume.specs.Pacing.{ArePaced}
 use Rattle.afr_volume.specs.State.{State}
 use Rattle.afr_log.specs.Log.{waits_for}
-use Rattle.afr_volume.specs.Turning.{Turns, AddsLine, Readies, ReadiedAt, StepsAt, due_at, if_due}
+use Rattle.afr_volume.specs.Turning.{Turns, AddsLine, Readies, ReadiedAt, StepsAt, due_at, if_due, IsTaskLine}
 use Rattle.afr_volume.specs.declared.actor.Actor.{Actor}
 use Rattle.afr_volume.specs.declared.turned.Turned.{Turned}
 use Rattle.afr_volume.specs.declared.turned.Turned.TheVariants.{Moved, Waits}
 use Rattle.afr_volume.proofs.LogLemmas.{reverse_push}
 use Rattle.afr_volume.proofs.Before.{IsBefore, client_is}
-use Rattle.afr_volume.proofs.HealersKeep.{healers_stay}
-use Rattle.afr_volume.proofs.LineKeeps.{LineKeeps, Wrote, wrote_own}
+use Rattle.afr_volume.proofs.HealersKeep.{differ, healers_stay}
+use Rattle.afr_volume.proofs.LineKeeps.{LineKeeps, Wrote, other_work, wrote_own}
+use Rattle.afr_volume.proofs.TaskLemmas.{others_crawl}
 use Rattle.afr_volume.proofs.ReadyLemmas.{script_is}
 use Rattle.afr_volume.proofs.TurnKeeps.{before_turn, can_step, got_same, kept_ready, kept_turn, line_keeps}
 use Rattle.std.proofs.Common.{inl, inr}
+use Rattle.afr_base.specs.declared.ids.Gfid.{Gfid}
+use Rattle.afr_base.specs.declared.ids.What.{What}
+use Rattle.afr_volume.specs.Tasks.{is_done_in}
 
 -- ---- the premises
 or_false : (x y : Bool) → (x || y) ≡ false → (x ≡ false) × (y ≡ false)
@@ -135,11 +139,13 @@ module _ {crawl : Bool} (laws : Laws) (starts : BeginLaws) (p : Plan) (a : Actor
 
   -- with the healers, which the line leaves as they were
   pub whole : (rounds : RoundLaws) (healers : List Healer) (added : List Line) (new_servers : List Serving) (new_actors : List Actor) (line : Line) → Took added new_servers new_actors line → AreHealers crawl p (reverse items) servers healers
-      → ArePaced p (reverse added) new_actors healers → IsWhole crawl p (reverse added) new_servers new_actors healers made
-  whole rounds healers added new_servers new_actors line t k paced = record {
+      → ArePaced p (reverse added) new_actors healers → (crawl ≡ true → AreCrawling p (reverse items) healers) → IsWhole crawl p (reverse added) new_servers new_actors healers made
+  whole rounds healers added new_servers new_actors line t k paced crawling = record {
     kept = t.volume;
     healing = subst (λ (log : List Line). AreHealers crawl p log new_servers healers) (sym t.log) (healers_stay rounds p a line (reverse items) servers new_servers healers client t.wrote t.stands t.found k);
     pacing = paced;
+    crawling = λ crawls. subst (λ (log : List Line). AreCrawling p log healers) (sym t.log)
+        (others_crawl p line (reverse items) healers (λ c low. other_work a c line (reverse items) t.wrote (differ a.0 c (λ same. absurd (omega (arith, client, low, same))))) (crawling crawls));
   }
 
   pub took : (at : ℕ) (added : List Line) (new_actors : List Actor) (new_servers : List Serving) (line : Line) → is_done p a.0 (reverse items) ≡ false → due_at p (reverse items) ≡ None → at ≡ length items
@@ -190,19 +196,26 @@ module _ {crawl : Bool} (p : Plan) (a : ℕ) (log : List Line) (servers : List S
       ap (λ (n : ℕ). nat_le count n) acts.ended_is ∙ sym (rw (lives, works) refl)
 
 -- what a turn answers by the line that it added
-pub turned : (p : Plan) (a : ActorId) (items added : List Line) (was is picked_before picked_now : List (Option ℕ)) (line : Line) (waits : Option ActorId) (answer : Turned) → is_of a.0 line ≡ true → reverse added ≡ line ∷ reverse items → waits_for line ≡ waits
-    → ((i : ℕ) → (17 + i ≡ a.0 → ⊥) → slice_get is i ≡ slice_get was i) → ((i : ℕ) → (1 + i ≡ a.0 → ⊥) → slice_get picked_now i ≡ slice_get picked_before i) → ((owner : ActorId) → waits ≡ Some owner → answer ≡ Waits owner) → (waits ≡ None → answer ≡ Moved)
-    → Turns a (record { plan = p; log = reverse items; sources = was; picked = picked_before }) answer (record { plan = p; log = reverse added; sources = is; picked = picked_now })
-turned p a items added was is picked_before picked_now line waits answer own grown w others others_picked some none = go waits w some none
+pub turned : (a : ActorId) (old new : State) (line : Line) (waits : Option ActorId) (answer : Turned) → is_of a.0 line ≡ true → new.plan ≡ old.plan → new.log ≡ line ∷ old.log → waits_for line ≡ waits
+    → ((i : ℕ) → (17 + i ≡ a.0 → ⊥) → slice_get new.sources i ≡ slice_get old.sources i) → ((i : ℕ) → (1 + i ≡ a.0 → ⊥) → slice_get new.picked i ≡ slice_get old.picked i) → new.crawl ≡ old.crawl → is_done_in a.0 old ≡ false
+    → ((i : ℕ) → (18 + i ≡ a.0 → ⊥) → slice_get new.tasks i ≡ slice_get old.tasks i) → ((item : Gfid × What) → 18 ≤ a.0 → slice_get old.tasks (a.0 - 18) ≡ Some (Some item) → IsTaskLine a.0 item line old.log new.tasks)
+    → ((owner : ActorId) → waits ≡ Some owner → answer ≡ Waits owner) → (waits ≡ None → answer ≡ Moved) → Turns a old answer new
+turned a old new line waits answer own plan grown w others others_picked crawl left others_tasks own_task some none = go waits w some none
   where
-    old : State
-    old = record { plan = p; log = reverse items; sources = was; picked = picked_before }
-
-    new : State
-    new = record { plan = p; log = reverse added; sources = is; picked = picked_now }
-
     adds : (waits : Option ActorId) → waits_for line ≡ waits → AddsLine a old waits new
-    adds waits w = record { line = line; own = own; waiting = w; plan = refl; added = grown; others = others; others_picked = others_picked }
+    adds waits w = record {
+      line = line;
+      own = own;
+      waiting = w;
+      plan = plan;
+      added = grown;
+      others = others;
+      others_picked = others_picked;
+      crawl = crawl;
+      left = left;
+      others_tasks = others_tasks;
+      own_task = own_task;
+    }
 
     go : (waits : Option ActorId) → waits_for line ≡ waits → ((owner : ActorId) → waits ≡ Some owner → answer ≡ Waits owner) → (waits ≡ None → answer ≡ Moved) → Turns a old answer new
     go (Some owner) w some none = subst (λ (t : Turned). Turns a old t new) (sym (some owner refl)) (adds (Some owner) w)

@@ -1,18 +1,20 @@
 -- How turns and events take a log to a longer one.
 use Rattle.std.specs.Prelude.{◌≡◌, ℕ, ◌+◌, ◌≤◌, ◌<◌, Bool, true, false, List, ◌++◌, length}
+use Rattle.afr_base.specs.declared.ids.ActorId.{ActorId}
 use Rattle.afr_lines.specs.declared.line.Line.{Line}
 use Rattle.afr_plan.specs.declared.plan.Plan.{Plan}
 use Rattle.afr_volume.specs.State.{State}
-use Rattle.afr_volume.specs.Turning.{Comes}
+use Rattle.afr_volume.specs.Turning.{Comes, Turns}
 use Rattle.afr_model.specs.Actors.{IsActor, is_done}
 use Rattle.afr_model.specs.Following.{NoneDue}
 use Rattle.afr_model.specs.Ordered.{Writes, actors_of, passes}
 use Rattle.afr_volume.specs.declared.turned.Turned.{Turned}
 use Rattle.afr_volume.specs.declared.turned.Turned.TheVariants.{Full}
 
--- the plan stays, the log grows or all is as it was, and who is done stays done
+-- the plan stays and the way its healers go, the log grows or all is as it was, and who is done stays done
 pub record Goes (old new : State) : Type 0 where
   pub plan : new.plan ≡ old.plan
+  pub crawl : new.crawl ≡ old.crawl
   pub grows : length old.log ≤ length new.log
   pub same : length new.log ≤ length old.log → new ≡ old
   pub stays : (a : ℕ) → is_done old.plan a old.log ≡ true → is_done new.plan a new.log ≡ true
@@ -21,6 +23,12 @@ pub record Goes (old new : State) : Type 0 where
 pub data IsHappening (old : State) : State → Type 0 where
   Still : IsHappening old old
   Later : (mid new : State) → IsHappening old mid → Comes mid new → IsHappening old new
+
+-- events that were due, and turns of clients, took the old volume to the new one
+pub data ClientsRun (old : State) : State → Type 0 where
+  AtFirst : ClientsRun old old
+  AfterEvent : (mid new : State) → ClientsRun old mid → Comes mid new → ClientsRun old new
+  AfterTurn : (mid new : State) (a : ActorId) (turned : Turned) → ClientsRun old mid → a.0 ≤ 16 → Turns a mid turned new → ClientsRun old new
 
 -- these turns, and events between them, took the old log to the new one
 pub record Takes (p : Plan) (turns : List ℕ) (old new : List Line) : Type 0 where

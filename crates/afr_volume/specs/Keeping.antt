@@ -1,7 +1,9 @@
 -- What a volume keeps: its servers, actors and counts are what the log says, and the log is honest, lawful and the plan's.
-use Rattle.std.specs.Prelude.{◌≡◌, ℕ, ◌+◌, ◌<◌, ◌≤◌, Bool, true, false, List, [], None, Option, Some, length, slice_get}
+use Rattle.std.specs.Prelude.{◌≡◌, ℕ, ◌+◌, ◌<◌, ◌≤◌, Bool, true, false, List, [], ◌∷◌, None, Option, Some, length, slice_get}
 use Rattle.afr_base.specs.declared.ids.BrickId.{BrickId}
+use Rattle.afr_base.specs.declared.ids.Gfid.{Gfid}
 use Rattle.afr_base.specs.declared.ids.Shape.{Shape}
+use Rattle.afr_base.specs.declared.ids.What.{What}
 use Rattle.afr_discipline.specs.Stands.{HasFive, no_lines}
 use Rattle.afr_discipline.specs.declared.register.Register.{Register}
 use Rattle.afr_law.specs.Exactly.{IsLawfulExactly}
@@ -16,12 +18,14 @@ use Rattle.afr_plan.specs.declared.schedule.Go.{Go}
 use Rattle.afr_plan.specs.declared.schedule.PlannedEvent.{PlannedEvent}
 use Rattle.afr_model.specs.Actors.{IsActor, rounds_of, script_of}
 use Rattle.afr_model.specs.Blamed.{AreBlamed}
+use Rattle.afr_model.specs.Crawl.{AreOfItem, CanCrawl}
 use Rattle.afr_model.specs.Kept.{AreKept}
 use Rattle.afr_model.specs.Following.{Follows}
 use Rattle.afr_model.specs.Honest.{Honest}
 use Rattle.afr_model.specs.Replied.{Replied}
 use Rattle.afr_law_picks.specs.Laws.{KeepsPicked, number_in}
 use Rattle.afr_law_picks.specs.Readings.{asked_in, asked_of}
+use Rattle.afr_heal_round.specs.Rounding.{Rounding}
 use Rattle.afr_healer.specs.Keeping.{IsHealer}
 use Rattle.afr_healer.specs.declared.healer.Healer.{Healer}
 use Rattle.afr_server.specs.Serving.{Serving}
@@ -50,6 +54,7 @@ IsEventOf p (Kill a) = IsActor p a.0
 pub record CanRun (p : Plan) : Type 0 where
   pub few : p.shape.n ≤ 5
   pub some : 0 < length p.clients → 0 < p.shape.n
+  pub healed : 0 < length p.healers → 0 < p.shape.n
   pub turns : p.turns ≤ 4000000
   pub clients : length p.clients ≤ 16
   pub healers : length p.healers ≤ 3
@@ -119,8 +124,26 @@ pub record AreHealers (crawl : Bool) (p : Plan) (log : List Line) (servers : Lis
   pub same : length healers ≡ length p.healers
   pub each : (i : ℕ) (x : Healer) → slice_get healers i ≡ Some x → IsHealer crawl p log (17 + i) servers x
 
--- and of the healers; and all keep their pace
+-- ---- where the healers crawl
+-- a worker is at a task: its list is one item, and its lines so far are of that item
+pub record IsAtTask (a : ℕ) (log : List Line) (m : Rounding) : Type 0 where
+  pub item : Gfid × What
+  pub list : m.round.list ≡ Some (item ∷ [])
+  pub of : AreOfItem item (work a log)
+
+abbrev pub IsAtIts : ℕ → List Line → Option Rounding → Type 0
+IsAtIts a log None = Unit {0}
+IsAtIts a log (Some m) = IsAtTask a log m
+
+-- the plan can be crawled, and each healer but the first is at its task
+pub record AreCrawling (p : Plan) (log : List Line) (healers : List Healer) : Type 0 where
+  pub can : CanCrawl p
+  pub tasks : (i : ℕ) (x : Healer) → slice_get healers i ≡ Some x → 1 ≤ i → IsAtIts (17 + i) log x.round
+
+-- ---- the whole
+-- and of the healers; all keep their pace, and where the healers crawl, each worker is at its task
 pub record IsWhole (crawl : Bool) (p : Plan) (log : List Line) (servers : List Serving) (actors : List Actor) (healers : List Healer) (made : ℕ) : Type 0 where
   pub kept : IsVolume crawl p log servers actors made
   pub healing : AreHealers crawl p log servers healers
   pub pacing : ArePaced p log actors healers
+  pub crawling : crawl ≡ true → AreCrawling p log healers

@@ -12,7 +12,7 @@ use Rattle.afr_law_heard.specs.Hears.{LookupBrings, LookupHears, WriteBrings, Wr
 use Rattle.afr_law_cost.specs.Index.Indexes.{NextIndexIsShort}
 use Rattle.afr_law_picks.specs.Laws.{AnswersOneOf, BeginKeepsPicked, EndReadsPicked, LineAsksRule, LineKeepsPicked, LineReadsPicked, ReadingBegins}
 use Rattle.afr_law_cost.specs.Healer.Laws.{IndexIsShown, RoundPacedAtFirst, RoundPacedLine, RoundPacedOther, RoundPacedReady}
-use Rattle.afr_healer.specs.Laws.{CanStepNext, LineKeepsRound, OthersStay, RoundsBegin, RoundsEnd}
+use Rattle.afr_healer.specs.Laws.{CanStepNext, LineKeepsRound, OthersStay, RoundsBegin, RoundsEnd, TasksBegin}
 use Rattle.afr_rule.specs.Choosing.{Calls}
 use Rattle.afr_heal_machine.specs.Laws.{HealIsInside}
 use Rattle.afr_servers.specs.Needs.{AnswersAreRead, NeedsAreMet}
@@ -106,6 +106,7 @@ pub record RoundLaws : Type 0 where
   pub others : OthersStay
   pub begins : RoundsBegin
   pub ends : RoundsEnd
+  pub tasks : TasksBegin
 
 -- how far the works and rounds come with each line, and in which order they ask for their locks
 pub record PaceLaws : Type 0 where

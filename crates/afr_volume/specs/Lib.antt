@@ -1,4 +1,5 @@
 pub mod State
+pub mod Tasks
 pub mod Laws
 pub mod Acting
 pub mod Pacing
@@ -7,3 +8,4 @@ pub mod Turning
 pub mod Starting
 pub mod Right
 pub mod Going
+pub mod Lists

@@ -1,8 +1,10 @@
 -- What a turn and an event do to a volume.
-use Rattle.std.specs.Prelude.{◌≡◌, ◌⊎◌, ◌||◌, ℕ, ◌+◌, ◌≤◌, ◌-◌, true, false, List, ◌∷◌, Option, Some, None, length, slice_get, slice_set, nat_le, nat_lt, if◌then◌else◌}
+use Rattle.std.specs.Prelude.{◌≡◌, ◌⊎◌, ◌||◌, ℕ, ◌+◌, ◌≤◌, ◌-◌, Bool, true, false, List, ◌∷◌, Option, Some, None, length, slice_get, slice_set, nat_le, nat_lt, not, if◌then◌else◌}
 use Rattle.afr_base.specs.declared.ids.ActorId.{ActorId}
 use Rattle.afr_base.specs.declared.ids.BrickId.{BrickId}
-use Rattle.afr_lines.specs.Work.{is_of, events_made, kills}
+use Rattle.afr_base.specs.declared.ids.Gfid.{Gfid}
+use Rattle.afr_base.specs.declared.ids.What.{What}
+use Rattle.afr_lines.specs.Work.{events_made, is_end, is_of, kills, work}
 use Rattle.afr_lines.specs.declared.line.Event.{Event}
 use Rattle.afr_lines.specs.declared.line.Event.TheVariants.{Kill}
 use Rattle.afr_lines.specs.declared.line.Line.{Line}
@@ -13,7 +15,11 @@ use Rattle.afr_plan.specs.declared.schedule.PlannedEvent.{PlannedEvent}
 use Rattle.afr_server.specs.Serving.{Serving}
 use Rattle.afr_plan.specs.declared.command.Command.{Command}
 use Rattle.afr_volume.specs.State.{State}
-use Rattle.afr_model.specs.Actors.{is_done, rounds_of, script_of}
+use Rattle.afr_model.specs.Actors.{rounds_of, script_of}
+use Rattle.afr_model.specs.Crawl.{item_by}
+use Rattle.afr_volume.specs.Tasks.{is_done_in}
+use Rattle.afr_base.specs.declared.ids.Shape.{Shape}
+use Rattle.afr_heal_round.specs.Rounding.{task_from}
 use Rattle.afr_healer.specs.Acting as rounds
 use Rattle.afr_healer.specs.declared.healer.Healer.{Healer}
 use Rattle.afr_client.specs.Begin.{work_from}
@@ -24,7 +30,12 @@ use Rattle.afr_volume.specs.declared.actor.Actor.{Actor}
 use Rattle.afr_volume.specs.declared.turned.Turned.{Turned}
 use Rattle.afr_volume.specs.declared.turned.Turned.TheVariants.{Moved, Waits, Ended, Full}
 
--- one line of the actor was added, and the running heals and reads of others have the sources and the copies that they had
+-- a line of a worker that was at a task: it goes on with it, or has ended it with that item
+pub record IsTaskLine (a : ℕ) (item : Gfid × What) (line : Line) (older : List Line) (tasks : List (Option (Gfid × What))) : Type 0 where
+  pub present : slice_get tasks (a - 18) ≡ Some (if is_end line then None else Some item)
+  pub tried : is_end line ≡ true → item_by (work a older) ≡ Some item
+
+-- one line of the actor, which wasn't done, was added; the running heals and reads of others have the sources and the copies that they had, and other workers their tasks; the task of a worker is over with its end, and then was tried
 pub record AddsLine (a : ActorId) (old : State) (waits : Option ActorId) (new : State) : Type 0 where
   pub line : Line
   pub own : is_of a.0 line ≡ true
@@ -33,13 +44,17 @@ pub record AddsLine (a : ActorId) (old : State) (waits : Option ActorId) (new : 
   pub added : new.log ≡ line ∷ old.log
   pub others : (i : ℕ) → (17 + i ≡ a.0 → ⊥) → slice_get new.sources i ≡ slice_get old.sources i
   pub others_picked : (i : ℕ) → (1 + i ≡ a.0 → ⊥) → slice_get new.picked i ≡ slice_get old.picked i
+  pub crawl : new.crawl ≡ old.crawl
+  pub left : is_done_in a.0 old ≡ false
+  pub others_tasks : (i : ℕ) → (18 + i ≡ a.0 → ⊥) → slice_get new.tasks i ≡ slice_get old.tasks i
+  pub own_task : (item : Gfid × What) → 18 ≤ a.0 → slice_get old.tasks (a.0 - 18) ≡ Some (Some item) → IsTaskLine a.0 item line old.log new.tasks
 
 -- what each answer of a turn says
 abbrev pub Turns : ActorId → State → Turned → State → Type 0
 Turns a old Moved new = AddsLine a old None new
 Turns a old (Waits owner) new = AddsLine a old (Some owner) new
-Turns a old Ended new = (is_done old.plan a.0 old.log ≡ true) × (new ≡ old)
-Turns a old Full new = (length old.log ≡ old.plan.turns) × (is_done old.plan a.0 old.log ≡ false) × (new ≡ old)
+Turns a old Ended new = (is_done_in a.0 old ≡ true) × (new ≡ old)
+Turns a old Full new = (length old.log ≡ old.plan.turns) × (is_done_in a.0 old ≡ false) × (new ≡ old)
 
 -- an event is due where its position has come
 abbrev pub if_due : ℕ → Option PlannedEvent → Option Event
@@ -83,15 +98,27 @@ pub record StepsAt (Hears : Hearing) (a : ActorId) (at : ℕ) (old new : List Ac
   pub steps : Stepped Hears a at before after bricks after_bricks written
   pub set_is : new ≡ slice_set old (a.0 - 1) after
 
--- a healer among all has its present round, and the memory of its coming move
-pub record ReadiedHealerAt (p : Plan) (a : ℕ) (old new : List Healer) : Type 0 where
+-- a healer among all has its present round or task, and the memory of its coming move; a round that begins is the plan's, and heals what it lists, but where the healers crawl
+pub record ReadiedHealerAt (crawl : Bool) (p : Plan) (a : ℕ) (old new : List Healer) : Type 0 where
   pub before : Healer
   pub after : Healer
   pub was : slice_get old (a - 17) ≡ Some before
   pub brick : BrickId
-  pub present : slice_get (rounds_of p a) before.ended ≡ Some brick
-  pub readies : rounds.Readies p.shape true brick before after
+  pub present : before.round ≡ None → slice_get (rounds_of p a) before.ended ≡ Some brick
+  pub readies : rounds.Readies p.shape (not crawl) brick before after
   pub set_is : new ≡ slice_set old (a - 17) after
+
+-- the first healer has no round
+pub record RestsFirst (old new : List Healer) : Type 0 where
+  pub before : Healer
+  pub was : slice_get old 0 ≡ Some before
+  pub set_is : new ≡ slice_set old 0 (record before { round = None })
+
+-- a healer among all has the task of one item
+pub record GivesTask (shape : Shape) (a : ℕ) (item : Gfid × What) (old new : List Healer) : Type 0 where
+  pub before : Healer
+  pub was : slice_get old (a - 17) ≡ Some before
+  pub set_is : new ≡ slice_set old (a - 17) (record before { round = Some (task_from shape item) })
 
 -- one line of one healer among all, whose round has begun
 pub record StepsHealerAt (Hears : rounds.Hearing) (a : ActorId) (at : ℕ) (old new : List Healer) (bricks after_bricks : List Serving) (written : Line) : Type 0 where

@@ -5,6 +5,7 @@ mod actor;
 mod due;
 mod healers;
 mod laws;
+mod lists;
 mod set_up;
 mod turned;
 mod turns;

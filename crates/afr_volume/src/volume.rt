@@ -6,7 +6,8 @@ ghost use Rattle.afr_lines.specs.Work.{is_killed, work};
 ghost use Rattle.afr_log.specs.Log.{shown_line};
 ghost use Rattle.afr_law_runnable.specs.Runnable.{IsRunnable};
 ghost use Rattle.afr_plan.specs.declared.schedule.Go.{Go};
-ghost use Rattle.afr_model.specs.Actors.{IsActor, is_done};
+ghost use Rattle.afr_model.specs.Actors.{IsActor};
+ghost use Rattle.afr_model.specs.Crawl.{CanCrawl};
 ghost use Rattle.afr_model.specs.Following.{NoneDue};
 ghost use Rattle.afr_model.specs.Report.{started_bricks};
 ghost use Rattle.afr_model.specs.State.{no_plan};
@@ -15,13 +16,15 @@ ghost use Rattle.afr_model.specs.Tables.{holds, keeps_bytes};
 ghost use Rattle.afr_rule.specs.Choosing.{IsRule};
 ghost use Rattle.afr_server.specs.Serving.{Serving};
 ghost use Rattle.afr_law_picks.specs.Sources.Sources.{picks_of};
-ghost use Rattle.afr_volume.specs.Right.{IsRight, KeepsChosen};
-ghost use Rattle.afr_volume.specs.State.{HealsChosen, ReadsChosen, no_volume, opened};
+ghost use Rattle.afr_volume.specs.Right.{IsRightFor, KeepsChosen};
+ghost use Rattle.afr_volume.specs.State.{HealsChosen, ReadsChosen, no_volume, opened, opened_for};
+ghost use Rattle.afr_volume.specs.Tasks.{is_done_in};
 ghost use Rattle.afr_volume.specs.Turning.{Comes, Turns, due_of, if_due};
 
 use crate::actor::Actor;
-use crate::healers::{HEALERS_FROM, all_healers, kill_healer, ready_healer, step_healer};
+use crate::healers::{HEALERS_FROM, all_healers, is_healer_done, kill_healer, ready_healer};
 use crate::laws::{laws, rule_laws};
+use crate::lists::step_listed;
 use crate::set_up::all_actors;
 use crate::turned::Turned;
 use crate::turns::{answer_of, kill, ready_actor, step_actor};
@@ -41,7 +44,7 @@ use afr_law_promises::{
 use afr_law_quiet::quiet_rounds_are_whole;
 use afr_lines::{Event, Line};
 use afr_log::{Log, ShownLine};
-use afr_object::List;
+use afr_object::{IndexList, List};
 use afr_plan::{Plan, Words};
 use afr_rule::{Candidate, ReadRule, Rules, SourceRule};
 use afr_server::Server;
@@ -49,8 +52,11 @@ use afr_servers::Servers;
 use std::alloc::Global;
 use std::marker::Model;
 
+mod crawl;
+
 /// A plan on its way. Contracts see the plan, the log, the source that the running heal of each
-/// healer has chosen, and the copy that was picked for the reads of each client.
+/// healer has chosen, the copy that was picked for the reads of each client, and, where the healers
+/// crawl, the tasks of the workers.
 #[derive(Drop)]
 pub struct Volume {
     alloc: Global,
@@ -61,20 +67,25 @@ pub struct Volume {
     healers: Vec<Healer>,
     /// How many events of the plan have come.
     made: u32,
+    /// Whether the healers crawl.
+    crawl: bool,
+    /// What each round of a crawl was given, once it has asked.
+    lists: Vec<Option<IndexList>>,
 }
 
 impl Model for Volume {
-    ghost use Rattle.std.specs.Prelude.{false, reverse};
+    ghost use Rattle.std.specs.Prelude.{reverse};
     ghost use Rattle.afr_law_picks.specs.Sources.Sources.{sources_of};
     ghost use Rattle.afr_volume.specs.Acting.{picked_of};
-    ghost use Rattle.afr_volume.specs.Keeping.{IsWhole};
+    ghost use Rattle.afr_volume.specs.Lists.{IsListed};
     ghost use Rattle.afr_volume.specs.State.{State};
+    ghost use Rattle.afr_volume.specs.Tasks.{tasks_of};
 
     ghost Value = { State };
 
-    ghost view = { λ v. record { plan = v.plan; log = reverse v.log.items; sources = sources_of v.healers.items; picked = picked_of v.actors.items } };
+    ghost view = { λ v. record { plan = v.plan; log = reverse v.log.items; sources = sources_of v.healers.items; picked = picked_of v.actors.items; crawl = v.crawl; tasks = tasks_of v.crawl v.healers.items } };
 
-    ghost invariant = { λ v. IsWhole false v.plan (reverse v.log.items) v.servers v.actors.items v.healers.items v.made };
+    ghost invariant = { λ v. IsListed v.crawl v.plan (reverse v.log.items) v.servers v.actors.items v.healers.items v.made v.lists.items };
 }
 
 impl Volume {
@@ -90,6 +101,8 @@ impl Volume {
             actors: Vec::new(alloc),
             healers: Vec::new(alloc),
             made: 0,
+            crawl: false,
+            lists: Vec::new(alloc),
         }
     }
 
@@ -112,6 +125,8 @@ impl Volume {
             actors,
             healers,
             made: 0,
+            crawl: false,
+            lists: Vec::new(self.alloc),
         };
         Ok(())
     }
@@ -131,7 +146,7 @@ impl Volume {
         requires none { due_of self.old ≡ None }
         ensures ok { IfOk result (λ turned. Turns a self.old turned self.new) }
         ensures err { OnErr result (self.new ≡ self.old) }
-        ensures right { IsRight self.new.plan self.new.log }
+        ensures right { IsRightFor self.new.crawl self.new.plan self.new.log }
         ensures chosen { KeepsChosen F.Fn G.Fn rules.now self.old self.new }
     {
         let turned = self.take_turn(a, rules);
@@ -175,7 +190,7 @@ impl Volume {
         requires rule { IsRule G.Fn rule.now }
         requires actor { IsActor self.old.plan a.0 }
         requires client { a.0 ≤ 16 }
-        requires left { is_done self.old.plan a.0 self.old.log ≡ false }
+        requires left { is_done_in a.0 self.old ≡ false }
         requires room { length self.old.log < self.old.plan.turns }
         requires none { due_of self.old ≡ None }
         ensures ok { IfOk result (λ turned. Turns a self.old turned self.new) }
@@ -199,7 +214,7 @@ impl Volume {
         Ok(answer_of(waits))
     }
 
-    /// One line of a healer that has a round left.
+    /// One line of a healer that has a round left, or is at a task.
     fn healer_turn<F: Fn(&[Candidate]) -> usize>(
         &mut self,
         a: ActorId,
@@ -208,7 +223,7 @@ impl Volume {
         requires rule { IsRule F.Fn rule.now }
         requires actor { IsActor self.old.plan a.0 }
         requires healer { 17 ≤ a.0 }
-        requires left { is_done self.old.plan a.0 self.old.log ≡ false }
+        requires left { is_done_in a.0 self.old ≡ false }
         requires room { length self.old.log < self.old.plan.turns }
         requires none { due_of self.old ≡ None }
         ensures ok { IfOk result (λ turned. Turns a self.old turned self.new) }
@@ -219,13 +234,15 @@ impl Volume {
         let position = self.log.len() as u32;
         self.log.make_room()?;
         a_line_keeps_its_source(rule);
-        ready_healer(self.alloc, &self.plan, a, &mut self.healers)?;
-        step_healer(
+        ready_healer(self.alloc, &self.plan, self.crawl, a, &mut self.healers)?;
+        step_listed(
+            self.crawl,
             a,
             &mut self.healers,
             &mut self.servers,
             position,
             &mut self.log,
+            &mut self.lists,
             rule,
         )?;
         let waits = self.log.waits_at(position as usize);
@@ -254,15 +271,13 @@ impl Volume {
         Ok(())
     }
 
-    /// Whether the actor has no work left, or was killed.
+    /// Whether the actor has no work left and is at no task, or was killed.
     pub fn is_done(&self, a: ActorId) -> bool
         requires actor { IsActor self.now.plan a.0 }
-        ensures { result ≡ is_done self.now.plan a.0 self.now.log }
+        ensures { result ≡ is_done_in a.0 self.now }
     {
         if a.0 > MOST_CLIENTS {
-            let at = a.0 as usize - HEALERS_FROM;
-            let healer = &self.healers[at];
-            return healer.killed || healer.ended as usize >= self.plan.healers.item(at).len();
+            return is_healer_done(&self.plan, self.crawl, a, &self.healers);
         }
         let at = a.0 as usize - 1;
         let actor = &self.actors[at];
@@ -362,16 +377,17 @@ impl Volume {
 
     /// What the volume keeps of its log at every moment.
     pub fn every_line(&self)
-        ensures right { IsRight self.now.plan self.now.log }
+        ensures right { IsRightFor self.now.crawl self.now.plan self.now.log }
         ensures sums { AreSums self.now.plan self.now.log }
         ensures room { length self.now.log ≤ self.now.plan.turns }
         ensures turns { self.now.plan.turns ≤ 4000000 }
         ensures few { self.now.plan.shape.n ≤ 5 }
         ensures clients { length self.now.plan.clients ≤ 16 }
         ensures healers { length self.now.plan.healers ≤ 3 }
+        ensures crawls { self.now.crawl ≡ true → CanCrawl self.now.plan }
         ensures orders { (i : ℕ) (go : Go) → slice_get self.now.plan.go i ≡ Some go → IsActor self.now.plan go.actor.0 }
-        ensures settled { (a : ℕ) → IsActor self.now.plan a → is_done self.now.plan a self.now.log ≡ true → is_killed a self.now.log ≡ false → work a self.now.log ≡ [] }
-        ensures resting { self.now.log ≡ [] → self.now ≡ opened self.now.plan }
+        ensures settled { (a : ℕ) → IsActor self.now.plan a → is_done_in a self.now ≡ true → is_killed a self.now.log ≡ false → work a self.now.log ≡ [] }
+        ensures resting { self.now.log ≡ [] → self.now ≡ opened_for self.now.crawl self.now.plan }
     {
         let _ = &self.log;
         laws();

@@ -14,6 +14,7 @@ use Rattle.afr_model.specs.Actors.{IsActor, is_done}
 use Rattle.afr_order.specs.Onward.{Extends}
 use Rattle.afr_plan.specs.declared.plan.Plan.{Plan}
 use Rattle.afr_volume.specs.State.{State}
+use Rattle.afr_volume.proofs.TaskDone.{done_by_plan}
 use Rattle.afr_volume.specs.Turning.{AddsLine, Comes, Turns, due_at, due_of}
 use Rattle.afr_volume.specs.declared.turned.Turned.{Turned}
 use Rattle.afr_volume.specs.declared.turned.Turned.TheVariants.{Ended, Full, Moved, Waits}
@@ -108,7 +109,7 @@ record AddsOne (a : ℕ) (old new : State) : Type 0 where
 adds_one : (a : ActorId) (old new : State) (turned : Turned) → is_done old.plan a.0 old.log ≡ false → length old.log < old.plan.turns → Turns a old turned new → AddsOne a.0 old new
 adds_one a old new Moved busy room h = record { line = h.line; own = h.own; added = h.added }
 adds_one a old new (Waits owner) busy room h = record { line = h.line; own = h.own; added = h.added }
-adds_one a old new Ended busy room h = absurd (cc (sym h.0 ∙ busy))
+adds_one a old new Ended busy room h = absurd (cc (sym (done_by_plan a.0 old h.0) ∙ busy))
 adds_one a old new Full busy room h = absurd (omega (arith, h.0, room))
 
 pub turn_adds : (a : ActorId) (old new : State) (turned : Turned) → is_done old.plan a.0 old.log ≡ false → length old.log < old.plan.turns → Turns a old turned new → 0 < length new.log

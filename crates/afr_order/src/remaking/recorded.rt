@@ -1,5 +1,5 @@
 //! The image of a volume.
-ghost use Rattle.std.specs.Prelude.{◌≡◌, ◌<◌, ◌^◌, ℕ, List, None, IfOk, length};
+ghost use Rattle.std.specs.Prelude.{◌≡◌, ◌<◌, ◌^◌, ℕ, false, List, None, IfOk, length};
 ghost use Rattle.afr_image.specs.Images.{IsImage};
 ghost use Rattle.afr_image.specs.Logs.{image_of};
 ghost use Rattle.afr_plan.specs.Spells.{Spells};
@@ -15,6 +15,7 @@ use std::alloc::Global;
 /// The plan of a volume, and a step for each line that it has. Where a text spells the plan, and the plan is printed in fewer
 /// than 2^32 bytes, the image is read again from its bytes.
 pub fn image_of(alloc: Global, volume: &Volume) -> Result<Image, NoMemory>
+    requires plain { volume.now.crawl ≡ false }
     ensures ok { IfOk result (λ image. image ≡ image_of volume.now.plan volume.now.log) }
     ensures image { (bytes : List ℕ) → Spells bytes volume.now.plan → length (plan_text volume.now.plan) < 2 ^ 32 → IfOk result (λ image. IsImage None image) }
 {

@@ -1,5 +1,5 @@
 //! A run that is made again, line by line, and goes on from there.
-ghost use Rattle.std.specs.Prelude.{◌≡◌, ◌<◌, ◌≤◌, ℕ, Ok, Some, [], length, slice_get};
+ghost use Rattle.std.specs.Prelude.{◌≡◌, ◌<◌, ◌≤◌, ℕ, false, Ok, Some, [], length, slice_get};
 ghost use Rattle.afr_model.specs.Complete.{IsComplete};
 ghost use Rattle.afr_order.specs.Replays.Made.{DiffersAt, HasSteps, Retraces};
 ghost use Rattle.afr_rule.specs.Choosing.{IsRule};
@@ -30,9 +30,11 @@ pub fn replay<F: Fn(&[Candidate]) -> usize, G: Fn(&[Candidate]) -> usize>(
 ) -> Result<Replayed, NoMemory>
     requires rule { IsRule F.Fn rules.now.heal }
     requires read_rule { IsRule G.Fn rules.now.read }
+    requires plain { volume.old.crawl ≡ false }
     requires fresh { volume.old.log ≡ [] }
     requires room { length image.now.steps ≤ volume.old.plan.turns }
     ensures plan { volume.new.plan ≡ volume.old.plan }
+    ensures plain { volume.new.crawl ≡ false }
     ensures same { result ≡ Ok Replayed.Same → Retraces volume.new.plan image.now.steps volume.new.log }
     ensures steps { result ≡ Ok Replayed.Same → HasSteps image.now.steps volume.new.log }
     ensures complete { result ≡ Ok Replayed.Same → IsComplete volume.new.plan volume.new.log }
@@ -51,9 +53,11 @@ pub fn replay_steps<F: Fn(&[Candidate]) -> usize, G: Fn(&[Candidate]) -> usize>(
 ) -> Result<Replayed, NoMemory>
     requires rule { IsRule F.Fn rules.now.heal }
     requires read_rule { IsRule G.Fn rules.now.read }
+    requires plain { volume.old.crawl ≡ false }
     requires fresh { volume.old.log ≡ [] }
     requires room { length steps.now ≤ volume.old.plan.turns }
     ensures plan { volume.new.plan ≡ volume.old.plan }
+    ensures plain { volume.new.crawl ≡ false }
     ensures same { result ≡ Ok Replayed.Same → Retraces volume.new.plan steps.now volume.new.log }
     ensures steps { result ≡ Ok Replayed.Same → HasSteps steps.now volume.new.log }
     ensures complete { result ≡ Ok Replayed.Same → IsComplete volume.new.plan volume.new.log }
@@ -75,10 +79,12 @@ fn take_all<F: Fn(&[Candidate]) -> usize, G: Fn(&[Candidate]) -> usize>(
 ) -> Result<Replayed, NoMemory>
     requires rule { IsRule F.Fn rules.now.heal }
     requires read_rule { IsRule G.Fn rules.now.read }
+    requires plain { volume.old.crawl ≡ false }
     requires fresh { volume.old.log ≡ [] }
     requires room { length steps.now ≤ volume.old.plan.turns }
     requires turns { volume.old.plan.turns ≤ 4000000 }
     ensures plan { volume.new.plan ≡ volume.old.plan }
+    ensures plain { volume.new.crawl ≡ false }
     ensures same { result ≡ Ok Replayed.Same → Retraces volume.old.plan steps.now volume.new.log }
     ensures complete { result ≡ Ok Replayed.Same → IsComplete volume.new.plan volume.new.log }
     ensures differs { (i : ℕ) → result ≡ Ok (Replayed.Differs i) → DiffersAt volume.old.plan steps.now i volume.new.log }

@@ -23,8 +23,10 @@ pub(crate) fn take_step<F: Fn(&[Candidate]) -> usize, G: Fn(&[Candidate]) -> usi
 ) -> Result<bool, NoMemory>
     requires rule { IsRule F.Fn rules.now.heal }
     requires read_rule { IsRule G.Fn rules.now.read }
+    requires plain { volume.old.crawl ≡ false }
     requires room { length volume.old.log < volume.old.plan.turns }
     ensures plan { volume.new.plan ≡ volume.old.plan }
+    ensures plain { volume.new.crawl ≡ false }
     ensures made { result ≡ Ok true → MakesStep volume.old.plan step volume.old.log volume.new.log }
     ensures fails { result ≡ Ok false → Fails volume.old.plan step volume.old.log volume.new.log }
     ensures chosen { KeepsChosen F.Fn G.Fn rules.now volume.old volume.new }
@@ -44,7 +46,8 @@ fn is_event(step: Step) -> bool
 
 /// The next event, and whether its line has the step.
 fn take_event(volume: &mut Volume, step: Step) -> Result<bool, NoMemory>
-    requires { IsEventStep step }
+    requires event { IsEventStep step }
+    requires plain { volume.old.crawl ≡ false }
     ensures plan { volume.new.plan ≡ volume.old.plan }
     ensures made { result ≡ Ok true → MakesStep volume.old.plan step volume.old.log volume.new.log }
     ensures fails { result ≡ Ok false → Fails volume.old.plan step volume.old.log volume.new.log }
@@ -77,9 +80,11 @@ fn take_turn<F: Fn(&[Candidate]) -> usize, G: Fn(&[Candidate]) -> usize>(
 ) -> Result<bool, NoMemory>
     requires rule { IsRule F.Fn rules.now.heal }
     requires read_rule { IsRule G.Fn rules.now.read }
+    requires plain { volume.old.crawl ≡ false }
     requires room { length volume.old.log < volume.old.plan.turns }
     requires turn { IsEventStep step → ⊥ }
     ensures plan { volume.new.plan ≡ volume.old.plan }
+    ensures plain { volume.new.crawl ≡ false }
     ensures made { result ≡ Ok true → MakesStep volume.old.plan step volume.old.log volume.new.log }
     ensures fails { result ≡ Ok false → Fails volume.old.plan step volume.old.log volume.new.log }
     ensures chosen { KeepsChosen F.Fn G.Fn rules.now volume.old volume.new }
@@ -119,7 +124,8 @@ fn is_numbered(who: u8, clients: usize, healers: usize) -> bool
 
 /// Whether the newest line has the step.
 fn has_step(volume: &Volume, step: Step) -> bool
-    requires { 0 < length volume.now.log }
+    requires some { 0 < length volume.now.log }
+    requires plain { volume.now.crawl ≡ false }
     ensures yes { (line : Line) (older : List Line) → volume.now.log ≡ line ∷ older → result ≡ true → step_of line ≡ step }
     ensures no { (line : Line) (older : List Line) → volume.now.log ≡ line ∷ older → result ≡ false → step_of line ≡ step → ⊥ }
 {

@@ -4,6 +4,7 @@ use Rattle.afr_cli.proofs.EndLemmas.{nothing_eager}
 use Rattle.afr_cli.proofs.LiveLemmas.{live_planned, live_stops_at_usage, reports_live}
 use Rattle.afr_cli.proofs.RecordLemmas.{ended_has, is_recorded}
 use Rattle.afr_cli.proofs.StatusLemmas.{other_status, run_is_spelled}
+use Rattle.afr_volume.proofs.PlainLemmas.{plain_right}
 use Rattle.afr_volume.specs.State.{State}
 use Rattle.afr_cli.proofs.ToldLemmas.{refuses, runs}
 use Rattle.afr_cli.proofs.live.afr_live.Goals.{in-Some, in-None}
@@ -63,11 +64,20 @@ returns-clause-plan g c = elim c.match-live_form_of.branch [
   | in-None w ↦ inl (w.volume-is ∙ c.requires.fresh)
 ]
 
+pub returns-clause-plain : goal.returns-clause-plain
+returns-clause-plain g c = elim c.match-live_form_of.branch [
+  | in-Some w ↦ rw w.volume-is w.read_and_run-status.ensures.plain
+  | in-None w ↦ ap (λ (s : State). s.crawl) (w.volume-is ∙ c.requires.fresh)
+]
+
+pub returns-clause-right : goal.returns-clause-right
+returns-clause-right g c = plain_right _ (returns-clause-plain g c) c.every_line.ensures.right
+
 pub returns-clause-recorded : goal.returns-clause-recorded
 returns-clause-recorded g c = elim c.match-live_form_of.branch [
   | in-Some w ↦ λ ended. let r = w.read_and_run-status.ensures in let v = c.every_line.ensures in
       is_recorded _ _ _ _ (run_is_spelled _ _ _ (ended_has _ (λ zero. (r.ok zero).0) (λ seven. (r.unfinished seven).0) (rw w.status-is at ended)) _ (ap (λ (s : State). s.plan) w.volume-is))
-      v.few v.clients v.healers v.turns v.room v.right
+      v.few v.clients v.healers v.turns v.room (returns-clause-right g c)
   | in-None w ↦ λ ended. absurd (ended_has _ (λ zero. other_status _ _ 0 _ w.answer-status.ensures.whole (λ h. cc) (λ h. cc) (sym w.status-is ∙ zero))
       (λ seven. other_status _ _ 7 _ w.answer-status.ensures.whole (λ h. cc) (λ h. cc) (sym w.status-is ∙ seven)) ended)
 ]

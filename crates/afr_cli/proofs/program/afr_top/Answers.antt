@@ -1,5 +1,7 @@
 -- What was written of a run, the text that was cut off, and what a source that tells its bytes is answered with.
-use Rattle.std.proofs.Common.{sym, refl, ◌∙◌, inl, inr, arith}
+use Rattle.std.proofs.Common.{ap, sym, refl, ◌∙◌, inl, inr, arith}
+use Rattle.afr_volume.proofs.PlainLemmas.{plain_right}
+use Rattle.afr_volume.specs.State.{State}
 use Rattle.afr_words.specs.declared.form.Form.TheVariants as kind
 use Rattle.afr_cli.proofs.FormLemmas.{is_load, no_replay, plan_is_spelled, reading_is_not, reads_too, replay_is, replay_or_not}
 use Rattle.afr_cli.proofs.ReplayLemmas.{no_status, not_ended, refuses_image, replays}
@@ -137,3 +139,13 @@ returns-clause-imaged g c = λ turns bytes image. elim c.match-form_of.branch [
   | in-Ok-None w ↦ let none = w.in-Ok-None.ensures.none cc in λ given few spelled. absurd (none (kind.Replay turns, given.asked))
   | in-Err w ↦ λ given few spelled. inr (inr (inr (inr w.status-is)))
 ]
+
+pub returns-clause-plain : goal.returns-clause-plain
+returns-clause-plain g c = elim c.match-form_of.branch [
+  | in-Ok-Some w ↦ rw w.volume-is w.serve-status.ensures.plain
+  | in-Ok-None w ↦ ap (λ (s : State). s.crawl) (w.volume-is ∙ c.requires.fresh)
+  | in-Err w ↦ ap (λ (s : State). s.crawl) (w.volume-is ∙ c.requires.fresh)
+]
+
+pub returns-clause-right : goal.returns-clause-right
+returns-clause-right g c = plain_right _ (returns-clause-plain g c) c.every_line.ensures.right

@@ -1,5 +1,6 @@
 -- Each pass is one more, and one that added no line has found every actor done.
-use Rattle.std.proofs.Common.{◌≡◌, ◌≤◌, Ok, ap, length, true, arith, suc}
+use Rattle.afr_volume.proofs.PlainLemmas.{plain_settled}
+use Rattle.std.proofs.Common.{◌≡◌, ◌∙◌, ◌≤◌, Ok, ap, length, true, arith, suc}
 use Rattle.std.proofs.lemmas.Grind.{common_steps}
 use Rattle.afr_volume.proofs.DoneLemmas.{complete}
 use Rattle.afr_volume.proofs.GoingLemmas.{done_then, goes_nowhere, goes_then, takes_none, ends_true}
@@ -31,7 +32,7 @@ pub returns-then-len-before-clause-ok : goal.returns-then-len-before-clause-ok
 returns-then-len-before-clause-ok g c =
     let on : c.in_ok-take_pass.field-0 ≡ true = grind (arith, common_steps) in
     let still : length c.take_pass.new.volume.log ≤ length c.loop-volume.volume.log = omega (arith, c.len.ensures, c.len-before.ensures, c.if-len-before.true) in
-    complete c.take_pass.new.volume c.every_line.ensures.room (c.in_ok-take_pass.ensures.idle (ap Ok on) still) c.every_line.ensures.settled
+    complete c.take_pass.new.volume c.every_line.ensures.room (c.in_ok-take_pass.ensures.idle (ap Ok on) still) (plain_settled c.take_pass.new.volume (c.take_pass.ensures.goes.crawl ∙ c.loop-volume.invariant.goes.crawl ∙ c.requires.plain) c.every_line.ensures.settled)
 
 pub returns-in_err-take_pass-clause-onto : goal.returns-in_err-take_pass-clause-onto
 returns-in_err-take_pass-clause-onto g c = extends_then c.args.volume.now.log c.loop-volume.volume.log c.take_pass.new.volume.log c.loop-volume.invariant.onto c.take_pass.ensures.onto

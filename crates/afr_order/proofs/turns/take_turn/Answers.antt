@@ -1,6 +1,7 @@
-use Rattle.std.proofs.Common.{[], ◌∷◌}
+use Rattle.std.proofs.Common.{◌≡◌, ◌∙◌, true, [], ◌∷◌, arith, sym}
 use Rattle.afr_law_picks.specs.Sources.Sources.{picks_of}
-use Rattle.afr_volume.proofs.GoingLemmas.{happens_chosen, front_then, ends_then, turn_front, turn_ends}
+use Rattle.afr_volume.proofs.GoingLemmas.{happens_chosen, front_then, ends_then, turn_done, turn_front, turn_ends}
+use Rattle.afr_order.proofs.ClientLemmas.{happens_then_stays, happens_then_turn, runs_happen}
 use Rattle.afr_order.proofs.OnwardLemmas.{events_and_no_turn, events_then_turn, happens_onto}
 use Rattle.afr_order.proofs.turns.take_turn.Goals as goal
 
@@ -27,3 +28,18 @@ returns-in_err-turned-clause-onto g c = events_and_no_turn c.args.volume.now c.c
 
 pub returns-clause-onto : goal.returns-clause-onto
 returns-clause-onto g c = events_then_turn c.args.a c.args.volume.now c.come_due.new.volume c.turn.new.self c.in_ok-turned.turned c.come_due.ensures.happens c.in_ok-turned.ensures.ok
+
+-- a turn that added no line, with room in the log, was one of an actor that is done
+pub returns-clause-done : goal.returns-clause-done
+returns-clause-done g c = λ on still.
+    let yes : c.goes_on.result ≡ true = cc on in
+    turn_done c.args.a c.come_due.new.volume c.turn.new.self c.in_ok-turned.turned c.in_ok-turned.ensures.ok (sym c.goes_on.ensures ∙ yes) (omega (arith, still, c.come_due.ensures.goes.grows))
+
+pub returns-in_err-come_due-clause-runs : goal.returns-in_err-come_due-clause-runs
+returns-in_err-come_due-clause-runs g c = λ client. runs_happen c.args.volume.now c.come_due.new.volume c.come_due.ensures.happens
+
+pub returns-in_err-turned-clause-runs : goal.returns-in_err-turned-clause-runs
+returns-in_err-turned-clause-runs g c = λ client. happens_then_stays c.args.volume.now c.come_due.new.volume c.turn.new.self c.come_due.ensures.happens c.in_err-turned.ensures.err
+
+pub returns-clause-runs : goal.returns-clause-runs
+returns-clause-runs g c = λ client. happens_then_turn c.args.a c.args.volume.now c.come_due.new.volume c.turn.new.self c.in_ok-turned.turned client c.come_due.ensures.happens c.in_ok-turned.ensures.ok

@@ -80,6 +80,7 @@ returns-clause-rounds c = record {
   others = c.a_healer_keeps_its_round.ensures.others;
   begins = c.a_healer_keeps_its_round.ensures.begins;
   ends = c.a_healer_keeps_its_round.ensures.ends;
+  tasks = c.a_healer_keeps_its_round.ensures.tasks;
 }
 
 pub returns-clause-paces : goal.returns-clause-paces

@@ -9,13 +9,14 @@ use Rattle.afr_order.proofs.remaking.replaying.take_all.Goals as goal
 pub loop-i-init : goal.loop-i-init
 loop-i-init g c = record {
   plan = refl;
+  plain = c.requires.plain;
   len = ap length c.requires.fresh;
   made = made_none c.args.volume.now.plan c.args.steps.now c.args.volume.now.log c.requires.fresh;
   chosen = λ h. h;
 }
 
 pub take_step-requires : goal.take_step-requires
-take_step-requires g c = record { rule = c.requires.rule; read_rule = c.requires.read_rule; room = rw c.loop-i.invariant.plan (omega arith) }
+take_step-requires g c = record { rule = c.requires.rule; read_rule = c.requires.read_rule; plain = c.loop-i.invariant.plain; room = rw c.loop-i.invariant.plan (omega arith) }
 
 pub loop-i-preserved : goal.loop-i-preserved
 loop-i-preserved g c =
@@ -23,6 +24,7 @@ loop-i-preserved g c =
     let made : MakesStep c.args.volume.now.plan c.step_number.result c.loop-i.volume.log c.take_step.new.volume.log = subst (λ (p : Plan). MakesStep p c.step_number.result c.loop-i.volume.log c.take_step.new.volume.log) c.loop-i.invariant.plan (c.in_ok-take_step.ensures.made (ap Ok on)) in
     record {
       plan = c.take_step.ensures.plan ∙ c.loop-i.invariant.plan;
+      plain = c.take_step.ensures.plain;
       len = longer c.args.volume.now.plan c.step_number.result c.loop-i.volume.log c.take_step.new.volume.log c.loop-i.i c.loop-i.invariant.len made;
       made = made_more c.args.volume.now.plan c.args.steps.now c.loop-i.i c.step_number.result c.loop-i.volume.log c.take_step.new.volume.log c.step_number.ensures c.loop-i.invariant.made made;
       chosen = λ h. c.take_step.ensures.chosen (c.loop-i.invariant.chosen h);

@@ -2,13 +2,14 @@
 use Rattle.std.proofs.Common.{◌≡◌, ◌-◌, Some, length, sym, ◌∙◌, ap, arith}
 use Rattle.std.specs.Prelude.{slice_get}
 use Rattle.std.proofs.lemmas.List.{length-reverse}
+use Rattle.afr_volume.proofs.PlainLemmas.{plain_right}
 use Rattle.afr_order.proofs.Replays.LineLemmas.{newest_line, other_step, same_step, short_actors}
 use Rattle.afr_order.proofs.remaking.steps.has_step.Goals as goal
 
 pub step_at-requires : goal.step_at-requires
 step_at-requires c = record {
-  there = omega (arith, c.len-newest.ensures, c.requires, length-reverse c.lines.result.now.items, ap length c.lines.ensures);
-  short = short_actors c.args.volume.now.plan c.args.volume.now.log c.lines.result.now.items c.every_line.ensures.few c.every_line.ensures.clients c.every_line.ensures.healers c.every_line.ensures.right.follows c.every_line.ensures.right.lawful c.lines.ensures;
+  there = omega (arith, c.len-newest.ensures, c.requires.some, length-reverse c.lines.result.now.items, ap length c.lines.ensures);
+  short = short_actors c.args.volume.now.plan c.args.volume.now.log c.lines.result.now.items c.every_line.ensures.few c.every_line.ensures.clients c.every_line.ensures.healers (plain_right c.args.volume.now c.requires.plain c.every_line.ensures.right).follows (plain_right c.args.volume.now c.requires.plain c.every_line.ensures.right).lawful c.lines.ensures;
 }
 
 pub returns-clause-yes : goal.returns-clause-yes

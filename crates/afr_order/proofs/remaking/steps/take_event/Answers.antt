@@ -20,7 +20,7 @@ returns-then-not-branch-clause-plan c =
 pub returns-then-not-branch-clause-fails : goal.returns-then-not-branch-clause-fails
 returns-then-not-branch-clause-fails c = λ e.
     let off : c.in_ok-next_event.field-0 ≡ false = grind (arith, common_steps) in
-    no_event c.args.step c.args.volume.now c.next_event.new.volume c.requires (c.in_ok-next_event.ensures.none (ap Ok off)).0 (c.in_ok-next_event.ensures.none (ap Ok off)).1
+    no_event c.args.step c.args.volume.now c.next_event.new.volume c.requires.event (c.in_ok-next_event.ensures.none (ap Ok off)).0 (c.in_ok-next_event.ensures.none (ap Ok off)).1
 
 pub returns-then-not-branch-clause-happens : goal.returns-then-not-branch-clause-happens
 returns-then-not-branch-clause-happens c =
@@ -30,7 +30,10 @@ returns-then-not-branch-clause-happens c =
 pub has_step-requires : goal.has_step-requires
 has_step-requires c =
     let on : c.in_ok-next_event.field-0 ≡ true = grind (arith, common_steps) in
-    event_adds c.args.volume.now c.next_event.new.volume (c.in_ok-next_event.ensures.comes (ap Ok on))
+    record {
+      some = event_adds c.args.volume.now c.next_event.new.volume (c.in_ok-next_event.ensures.comes (ap Ok on));
+      plain = ap (λ (s : State). s.crawl) (c.in_ok-next_event.ensures.comes (ap Ok on)).added ∙ c.requires.plain;
+    }
 
 pub returns-clause-plan : goal.returns-clause-plan
 returns-clause-plan c =
@@ -41,13 +44,13 @@ pub returns-clause-made : goal.returns-clause-made
 returns-clause-made c = λ e.
     let on : c.in_ok-next_event.field-0 ≡ true = grind (arith, common_steps) in
     let yes : c.has_step.result ≡ true = cc e in
-    event_made c.args.step c.args.volume.now c.next_event.new.volume c.requires (c.in_ok-next_event.ensures.comes (ap Ok on)) (λ line older at. c.has_step.ensures.yes line older at yes)
+    event_made c.args.step c.args.volume.now c.next_event.new.volume c.requires.event (c.in_ok-next_event.ensures.comes (ap Ok on)) (λ line older at. c.has_step.ensures.yes line older at yes)
 
 pub returns-clause-fails : goal.returns-clause-fails
 returns-clause-fails c = λ e.
     let on : c.in_ok-next_event.field-0 ≡ true = grind (arith, common_steps) in
     let no : c.has_step.result ≡ false = cc e in
-    event_differs c.args.step c.args.volume.now c.next_event.new.volume c.requires (c.in_ok-next_event.ensures.comes (ap Ok on)) (λ line older at. c.has_step.ensures.no line older at no)
+    event_differs c.args.step c.args.volume.now c.next_event.new.volume c.requires.event (c.in_ok-next_event.ensures.comes (ap Ok on)) (λ line older at. c.has_step.ensures.no line older at no)
 
 pub returns-clause-happens : goal.returns-clause-happens
 returns-clause-happens c =

@@ -1,0 +1,5 @@
+//! Tests of a crawl.
+#![tactic(auto)]
+
+#[cfg(test)]
+mod tests;

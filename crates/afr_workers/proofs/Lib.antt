@@ -1,0 +1,5 @@
+pub mod PlaceLemmas
+pub mod GivenLemmas
+pub mod KilledLemmas
+pub mod CrewLemmas
+pub mod PassLemmas
