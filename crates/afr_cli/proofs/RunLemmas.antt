@@ -32,6 +32,12 @@ few_all r (inr (inr (inl e))) = inr (inr (inr (inr (inl e))))
 few_all r (inr (inr (inr (inl e)))) = inr (inr (inr (inr (inr (inl e)))))
 few_all r (inr (inr (inr (inr e)))) = inr (inr (inr (inr (inr (inr e)))))
 
+pub never_eight : (r : ℕ) → (r ≡ 0) ⊎ (r ≡ 5) ⊎ (r ≡ 6) ⊎ (r ≡ 7) → r ≡ 8 → ⊥
+never_eight r (inl e) eight = absurd (cc (sym e ∙ eight))
+never_eight r (inr (inl e)) eight = absurd (cc (sym e ∙ eight))
+never_eight r (inr (inr (inl e))) eight = absurd (cc (sym e ∙ eight))
+never_eight r (inr (inr (inr e))) eight = absurd (cc (sym e ∙ eight))
+
 -- ---- the form that crawls
 pub asks_crawl : (words : List (String Global)) (form : LiveForm) → crawls form ≡ true → AskLive words form → AskLive words live.Crawl
 asks_crawl words live.Live e asked = absurd (cc e)
