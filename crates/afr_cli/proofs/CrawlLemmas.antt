@@ -3,6 +3,7 @@ use Rattle.std.proofs.Common.{◌≡◌, ◌∙◌, ◌⊎◌, inl, inr, ℕ, su
 use Rattle.std.proofs.lemmas.Bool.{cases_lt}
 use Rattle.std.proofs.lemmas.Bool.Decides.{nat_tests}
 use Rattle.std.proofs.lemmas.List.Sums.{sum_by-cons}
+use Rattle.std.proofs.lemmas.Option.{get_or_from_slice_get}
 use Rattle.std.specs.Prelude.{is_some, option_and_then, slice_index_or}
 use Rattle.afr_base.specs.declared.ids.BrickId.{BrickId}
 use Rattle.afr_base.specs.declared.ids.Gfid.{Gfid}
@@ -37,6 +38,14 @@ second_rests p can = can.crawls 18 (omega arith, omega arith)
 
 pub third_rests : (p : Plan) → CanCrawl p → slice_index_or p.healers 2 [] ≡ []
 third_rests p can = can.crawls 19 (omega arith, omega arith)
+
+-- the healer at a place has no rounds exactly where its list has no length
+pub none_there : (p : Plan) (at : ℕ) (one : List BrickId) → slice_get p.healers at ≡ Some one → length one ≡ 0 → slice_index_or p.healers at [] ≡ []
+none_there p at [] there e = get_or_from_slice_get p.healers at [] [] there
+none_there p at (b ∷ more) there e = absurd (omega (arith, e))
+
+pub length_there : (p : Plan) (at : ℕ) (one : List BrickId) → slice_get p.healers at ≡ Some one → slice_index_or p.healers at [] ≡ [] → length one ≡ 0
+length_there p at one there e = ap length (sym (get_or_from_slice_get p.healers at [] one there) ∙ e)
 
 -- ---- tasks
 -- there are at most as many as works that ended

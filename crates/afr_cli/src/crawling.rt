@@ -62,6 +62,7 @@ pub fn crawl_plan<K: Sink, F: Fn(&[Candidate]) -> usize, G: Fn(&[Candidate]) -> 
 }
 
 /// Whether a plan has three healers, and rounds of the first alone.
+#[tactic(auto, using(crate::proofs::CrawlLemmas::can_by, crate::proofs::CrawlLemmas::second_rests, crate::proofs::CrawlLemmas::third_rests))]
 fn can_crawl(plan: &Plan) -> bool
     ensures yes { result ≡ true → CanCrawl plan.now }
     ensures no { result ≡ false → CanCrawl plan.now → ⊥ }
@@ -70,6 +71,7 @@ fn can_crawl(plan: &Plan) -> bool
 }
 
 /// Whether the healer at a place has no rounds.
+#[tactic(auto, using(crate::proofs::CrawlLemmas::none_there, crate::proofs::CrawlLemmas::length_there))]
 fn has_no_rounds(plan: &Plan, at: usize) -> bool
     requires { at < length plan.now.healers }
     ensures yes { result ≡ true → slice_index_or plan.now.healers at [] ≡ [] }

@@ -22,7 +22,8 @@ pub fn items_given(volume: &Volume, rounds: u32) -> u128
 /// The items of one round's list; none where it was given none.
 fn listed(volume: &Volume, round: u32) -> usize
     requires crawl { volume.now.crawl ≡ true }
-    ensures { result ≡ length_of (list_at round (lists_by volume.now.plan volume.now.log)) }
+    ensures value { result ≡ length_of (list_at round (lists_by volume.now.plan volume.now.log)) }
+    ensures few { result < 2 ^ 64 }
 {
     match volume.crawled(round) {
         Some(list) => list.len(),
