@@ -1,10 +1,10 @@
 -- Which plans can be crawled, and where a crawl that is over has nothing left to do.
-use Rattle.std.proofs.Common.{◌≡◌, ◌∙◌, ◌⊎◌, inl, inr, ℕ, suc, ◌+◌, ◌-◌, ◌<◌, ◌≤◌, ◌||◌, ◌&&◌, ◌==◌, not, Bool, true, false, List, [], ◌∷◌, Option, None, Some, if◌then◌else◌, refl, sym, ap, arith, length, map, nat_le, nat_lt, get_or, slice_get, sum, subst}
+use Rattle.std.proofs.Common.{◌≡◌, ◌∙◌, ◌⊎◌, inl, inr, ℕ, suc, ◌+◌, ◌-◌, ◌<◌, ◌≤◌, ◌||◌, ◌&&◌, ◌==◌, not, Bool, true, false, List, [], ◌∷◌, Option, None, Some, if◌then◌else◌, refl, sym, ap, arith, length, map, nat_le, nat_lt, get_or, slice_get, subst}
 use Rattle.std.proofs.lemmas.Bool.{cases_lt}
 use Rattle.std.proofs.lemmas.Bool.Decides.{nat_tests}
 use Rattle.std.proofs.lemmas.List.Sums.{sum_by-cons}
 use Rattle.std.proofs.lemmas.Option.{get_or_from_slice_get}
-use Rattle.std.specs.Prelude.{is_some, option_and_then, slice_index_or}
+use Rattle.std.specs.Prelude.{is_some, option_and_then, slice_index_or, sum}
 use Rattle.afr_base.specs.declared.ids.BrickId.{BrickId}
 use Rattle.afr_base.specs.declared.ids.Gfid.{Gfid}
 use Rattle.afr_base.specs.declared.ids.What.{What}
@@ -63,9 +63,10 @@ few_tasks a (End x said ∷ older) = by (x.0 == a) (item_by (work a older)) (few
 few_tasks a (HealEnd x g kind said ∷ older) = few_tasks a older
 few_tasks a (Event event ∷ older) = few_tasks a older
 
-ones : {A : Type 0} (l : List A) → sum (map (λ (x : A). 1) l) ≡ length l
-ones [] = refl
-ones (x ∷ l) = let rest = ones l in omega (arith, rest, sum_by-cons (λ (n : ℕ). n) 1 (map (λ (x : _). 1) l))
+module _ {A : Type 0} where
+  ones : (l : List A) → sum (map (λ (x : A). 1) l) ≡ length l
+  ones [] = refl
+  ones (x ∷ l) = let rest = ones l in omega (arith, rest, sum_by-cons (λ (n : ℕ). n) 1 (map (λ (x : A). 1) l))
 
 -- where each item was as often a task as it was given, enough tasks have ended
 tried_enough : (p : Plan) (log : List Line) → IsTried p log → items_given p log ≤ tasks_ended log

@@ -1,7 +1,6 @@
 //! A plan that is crawled, from its start to what is written of it.
 ghost use Rattle.std.specs.Prelude.{◌≡◌, ◌⊎◌, ◌≤◌, ◌<◌, ◌^◌, OnErr, OnOk, [], false, length, slice_index_or, true};
 ghost use Rattle.std.specs.Io.KnownBytes.{Appends};
-ghost use Rattle.afr_law_bound.specs.Ends.Law.{AreEager};
 ghost use Rattle.afr_law_runnable.specs.Runnable.{IsRunnable};
 ghost use Rattle.afr_model.specs.Crawl.{CanCrawl};
 ghost use Rattle.afr_plan_print.specs.PrintedPlan.{plan_text};
@@ -30,7 +29,6 @@ use std::alloc::Global;
 
 /// Crawls a plan and writes its report, also where the log got full in the middle of the work. A plan without three healers, or
 /// with a round of the second or the third, is refused.
-#[tactic(auto, using(crate::proofs::EndLemmas::nothing_eager))]
 pub fn crawl_plan<K: Sink, F: Fn(&[Candidate]) -> usize, G: Fn(&[Candidate]) -> usize>(
     alloc: Global,
     form: LiveForm,
