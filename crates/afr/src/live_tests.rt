@@ -79,14 +79,15 @@ impl<R: Wait> Gate for Meeting<'_, R> {
     }
 }
 
-/// The status and the text of a run of the plan by threads.
-fn live_run<R: Threads + Wait + Alloc<A = Global> + Sync, H: Gate + Sync>(
+/// The status and the text of a run of the plan by threads, or of a crawl, by the word.
+pub(crate) fn live_run<R: Threads + Wait + Alloc<A = Global> + Sync, H: Gate + Sync>(
     rt: &R,
+    word: &str,
     plan: &str,
     gate: &H,
 ) -> Result<(u8, MemSink), Fail> {
     let alloc = rt.alloc();
-    let words = vec![in alloc; String::from_str(alloc, "live")?]?;
+    let words = vec![in alloc; String::from_str(alloc, word)?]?;
     let mut bytes = Vec::new(alloc);
     bytes.extend_from_slice(plan.as_bytes())?;
     let mut source = MemSource::new(bytes, 4096, Vec::new(alloc));
@@ -120,7 +121,7 @@ fn two_clients_run_in_two_threads(rt: HostRuntime) -> Result<(), Fail> {
         rt: &rt,
         come: Mutex::new(nobody),
     };
-    let (status, sink) = live_run(&rt, APART, &gate)?;
+    let (status, sink) = live_run(&rt, "live", APART, &gate)?;
     assert_eq!(rt; status, 0);
     assert_eq!(rt; sink.taken(), APART_REPORT.as_bytes());
     assert!(rt; gate.have_both_come());
@@ -130,7 +131,7 @@ fn two_clients_run_in_two_threads(rt: HostRuntime) -> Result<(), Fail> {
 
 #[test]
 fn clients_and_healers_run_to_their_ends(rt: HostRuntime) -> Result<(), Fail> {
-    let (status, sink) = live_run(&rt, TREE, &NoGate)?;
+    let (status, sink) = live_run(&rt, "live", TREE, &NoGate)?;
     assert_eq!(rt; status, 0);
     assert!(rt; sink.taken().starts_with(b"afr replica 3\nlines "));
     Ok(())

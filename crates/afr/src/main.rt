@@ -2,6 +2,8 @@
 #![tactic(auto)]
 
 #[cfg(test)]
+mod crawl_tests;
+#[cfg(test)]
 mod hostile_tests;
 #[cfg(test)]
 mod live_tests;
@@ -70,10 +72,10 @@ fn words_after_the_name<R: Env + Alloc<A = Global>>(
     Ok(words.collect(alloc)?)
 }
 
-/// Whether the call for runs by threads serves these words: the first is `live` or `record`.
+/// Whether the call for runs by threads and crawls serves these words, by the first.
 fn is_live(words: &[String]) -> bool {
     match words.first() {
-        Some(first) => matches!(first.as_str(), "live" | "record"),
+        Some(first) => matches!(first.as_str(), "live" | "crawl" | "record"),
         None => false,
     }
 }

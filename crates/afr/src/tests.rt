@@ -9,7 +9,7 @@ use afr_volume::Volume;
 use std::alloc::Global;
 use std::test::Fail;
 
-const USAGE: &str = "usage: afr run | trace | info | gen N | live | record | replay T\n";
+const USAGE: &str = "usage: afr run | trace | info | gen N | live | crawl | record | replay T\n";
 
 /// A write and a read of five bytes.
 pub(crate) const PLAN: &str =

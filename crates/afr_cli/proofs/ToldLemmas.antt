@@ -19,7 +19,7 @@ module _ (bytes : List ℕ) (left' : Option (List ℕ)) where
   spelled_few : (plan : Plan) → IsSpelled (Some bytes) left' plan → length bytes ≤ 16777216
   spelled_few plan s = rw (← all_bytes bytes s.bytes left' s.read) s.read.few
 
-  spelled_bytes : (plan : Plan) → IsSpelled (Some bytes) left' plan → Spells bytes plan
+  pub spelled_bytes : (plan : Plan) → IsSpelled (Some bytes) left' plan → Spells bytes plan
   spelled_bytes plan s = rw (← all_bytes bytes s.bytes left' s.read) s.spells
 
 pub more_bytes : (most : ℕ) (bytes : List ℕ) (left' : Option (List ℕ)) → CameMore (Some bytes) left' most → most < length bytes
@@ -34,7 +34,7 @@ module _ (bytes : List ℕ) (left' : Option (List ℕ)) where
   faulty_first fault r = rw (← all_bytes bytes r.bytes left' r.read) r.first
 
   -- bytes with a fault spell no plan of a run
-  faulty_unspelled : (fault : PlanFault) (plan : Plan) → HasFault bytes fault → IsSpelled (Some bytes) left' plan → ⊥
+  pub faulty_unspelled : (fault : PlanFault) (plan : Plan) → HasFault bytes fault → IsSpelled (Some bytes) left' plan → ⊥
   faulty_unspelled fault plan (HasFault.Long more) s = omega (arith, more, spelled_few bytes left' plan s)
   faulty_unspelled fault plan (HasFault.Faulty few f first) s = faulty-spells bytes f plan first (spelled_bytes bytes left' plan s)
 

@@ -1,4 +1,5 @@
 -- The definitions that the contracts of this crate cite.
+pub mod Crawl
 pub mod Forms
 pub mod Live
 pub mod Reading

@@ -24,7 +24,7 @@ use Rattle.afr_cli.specs.Replay.{Differs, IsImagePlan, IsImageRefused, differenc
 
 -- the line that tells how the program is called
 abbrev pub usage_line : List ℕ
-usage_line = codes "usage: afr run | trace | info | gen N | live | record | replay T\n"
+usage_line = codes "usage: afr run | trace | info | gen N | live | crawl | record | replay T\n"
 
 -- the name of a refused plan's code
 abbrev pub name_of : ℕ → List ℕ

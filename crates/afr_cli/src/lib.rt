@@ -1,6 +1,7 @@
 //! The program without its outside: words, a source and a sink come in, a status goes out.
 #![tactic(auto)]
 
+mod crawling;
 mod finished;
 mod generated;
 mod imaged;

@@ -6,6 +6,7 @@ ghost use Rattle.afr_text.specs.Parts.{AppendsFront};
 ghost use Rattle.afr_law_runnable.specs.Runnable.{IsRunnable};
 ghost use Rattle.afr_model.specs.Complete.{IsComplete};
 ghost use Rattle.afr_model.specs.Ordered.{IsOrdered};
+ghost use Rattle.afr_model.specs.ReportHealers.{report_of};
 ghost use Rattle.afr_rule.specs.Choosing.{IsRule};
 ghost use Rattle.afr_volume.specs.Right.{IsChosenBy};
 ghost use Rattle.afr_volume.specs.State.{no_volume};
@@ -103,15 +104,24 @@ pub fn finish<K: Sink>(sink: &mut K, text: &[u8], volume: &Volume) -> u8
 
 /// The text that the form writes of the volume as it stands.
 fn text_of(alloc: Global, form: Form, volume: &Volume) -> Result<String, NoMemory>
+    requires plain { volume.now.crawl ≡ false }
     ensures ok { IfOk result (λ text. string_bytes text ≡ text_of form volume.now.plan volume.now.log) }
 {
     match form {
-        Form::Run => report_text(alloc, volume),
+        Form::Run => rounds_report(alloc, volume),
         Form::Trace => trace_text(alloc, volume),
         Form::Info => info_text(alloc, volume),
         Form::Gen(n) => summary_text(alloc, volume, n),
-        Form::Replay(_) => report_text(alloc, volume),
+        Form::Replay(_) => rounds_report(alloc, volume),
     }
+}
+
+/// The report of a volume whose healers go their own rounds.
+pub fn rounds_report(alloc: Global, volume: &Volume) -> Result<String, NoMemory>
+    requires plain { volume.now.crawl ≡ false }
+    ensures ok { IfOk result (λ text. string_bytes text ≡ report_of volume.now.plan volume.now.log) }
+{
+    report_text(alloc, volume)
 }
 
 /// The status of a run that is over, where its text is written to its end.

@@ -10,6 +10,7 @@ pub enum Status {
     WriteFault = 5,
     NoMemory = 6,
     Unfinished = 7,
+    CrawlRefused = 8,
     ImageRefused = 9,
     Differs = 10,
 }

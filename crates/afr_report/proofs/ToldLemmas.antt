@@ -12,7 +12,7 @@ use Rattle.afr_report.specs.Own.{is_one, placed, places, subject_of}
 use Rattle.afr_report.proofs.BrickLinesLemmas.{brick_line_at}
 
 -- of the lines up to a position the one that stands there
-newest : (log : List Line) (at : ℕ) (line : Line) → slice_get log at ≡ Some line → reverse (take (at + 1) log) ≡ line ∷ reverse (take at log)
+pub newest : (log : List Line) (at : ℕ) (line : Line) → slice_get log at ≡ Some line → reverse (take (at + 1) log) ≡ line ∷ reverse (take at log)
 newest log at line e =
     let next : at + 1 ≡ suc at = omega arith in
     let whole : take (at + 1) log ≡ take at log ++ line ∷ [] =
@@ -24,7 +24,7 @@ before : (log : List Line) (at : ℕ) → at < length log → length (reverse (t
 before log at small = length-reverse (take at log) ∙ length-take-le at log (omega (arith, small))
 
 -- the line at a position of the log
-line_there : (log : List Line) (at : ℕ) → at < length log → (line : Line) × (slice_get log at ≡ Some line)
+pub line_there : (log : List Line) (at : ℕ) → at < length log → (line : Line) × (slice_get log at ≡ Some line)
 line_there log at small = go (slice_get_cases log at).1
   where
     go : ((line : Line) × (at < length log) × (slice_get log at ≡ Some line) × (get_or log at line ≡ line)) ⊎ ((length log ≤ at) × (slice_get log at ≡ None)) → (line : Line) × (slice_get log at ≡ Some line)
@@ -32,7 +32,7 @@ line_there log at small = go (slice_get_cases log at).1
     go (inr e) = absurd (omega (arith, e.0, small))
 
 -- where a line is shown as no request, it is the one that stands there
-shown : (o : Option Line) (line : Line) → Some line ≡ unasked o → o ≡ Some line
+pub shown : (o : Option Line) (line : Line) → Some line ≡ unasked o → o ≡ Some line
 shown None line e = absurd (none-some line (sym e))
 shown (Some (Ask actor brick request told took)) line e = absurd (none-some line (sym e))
 shown (Some (Begin actor change)) line e = sym e

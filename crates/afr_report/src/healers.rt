@@ -34,7 +34,8 @@ pub fn push_healers(
     Ok(())
 }
 
-fn push_healer(
+/// Adds the text of one healer.
+pub fn push_healer(
     out: &mut String,
     words: &Words,
     healer: ActorId,

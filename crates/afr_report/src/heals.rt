@@ -1,5 +1,6 @@
 //! The line of a heal: its kind, its object and how it ended.
 ghost use Rattle.std.specs.Prelude.{◌≡◌, ◌++◌, OnOk, string_bytes};
+ghost use Rattle.afr_model.specs.ReportHealers.{heal_line};
 ghost use Rattle.afr_model.specs.ReportReplies.{is_nothing_healed};
 ghost use Rattle.afr_report.specs.Heals.{ended_heal, heal_of};
 
@@ -24,6 +25,19 @@ pub fn push_heal(out: &mut String, healer: ActorId, line: &Line) -> Result<(), N
     if *actor != healer {
         return Ok(());
     }
+    push_ended_heal(out, *gfid, *kind, reply)
+}
+
+/// The same of a line of whichever healer.
+pub fn push_heal_line(out: &mut String, line: &Line) -> Result<(), NoMemory>
+    ensures ok { OnOk result (string_bytes out.new ≡ string_bytes out.old ++ heal_line line.now) }
+{
+    let Line::HealEnd {
+        gfid, kind, reply, ..
+    } = line
+    else {
+        return Ok(());
+    };
     push_ended_heal(out, *gfid, *kind, reply)
 }
 

@@ -12,8 +12,10 @@ mod own;
 mod progress;
 mod report;
 mod summed;
+mod workers;
 
 pub use events::started;
 pub use of_volume::{info_text, report_text, trace_text};
 pub use report::print_report;
 pub use summed::{print_summary, summary_text};
+pub use workers::is_untried;

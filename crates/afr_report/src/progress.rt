@@ -62,7 +62,7 @@ pub fn reply_by(actor: ActorId, line: &Line) -> Option<&Reply>
     }
 }
 
-fn kills(actor: ActorId, line: &Line) -> bool
+pub fn kills(actor: ActorId, line: &Line) -> bool
     ensures { result ≡ kills actor.0 line.now }
 {
     match line {

@@ -1,5 +1,5 @@
 //! The whole report: the volume, the length of the log, the clients, the healers, and what needs heal.
-ghost use Rattle.std.specs.Prelude.{◌≡◌, ◌++◌, ◌≤◌, IfOk, OnOk, length, reverse, string_bytes};
+ghost use Rattle.std.specs.Prelude.{◌≡◌, ◌++◌, ◌≤◌, IfOk, OnOk, codes, decimal, length, reverse, string_bytes};
 ghost use Rattle.afr_report_info.specs.Shown.{HoldTables};
 ghost use Rattle.afr_model.specs.Report.{started_bricks, volume_text};
 ghost use Rattle.afr_model.specs.ReportHealers.{report_of};
@@ -31,9 +31,7 @@ pub fn print_report(
     ensures ok { HoldTables plan.now (reverse log.now.items) started servers.now → IfOk result (λ text. string_bytes text ≡ report_of plan.now (reverse log.now.items)) }
 {
     let mut out = String::new(alloc);
-    let lines = log.len();
-    push_volume(&mut out, plan.shape)?;
-    write!(out, "lines {lines}\n")?;
+    push_head(&mut out, plan.shape, log.len())?;
     let lists = places(alloc, log)?;
     push_clients(
         &mut out,
@@ -51,6 +49,15 @@ pub fn print_report(
     )?;
     print_info(&mut out, plan, servers, started)?;
     Ok(out)
+}
+
+/// Adds the kind of volume and the length of the log.
+pub fn push_head(out: &mut String, shape: Shape, lines: usize) -> Result<(), NoMemory>
+    ensures ok { OnOk result (string_bytes out.new ≡ string_bytes out.old ++ (volume_text shape ++ codes "lines " ++ decimal lines ++ codes "\n")) }
+{
+    push_volume(out, shape)?;
+    write!(out, "lines {lines}\n")?;
+    Ok(())
 }
 
 fn push_volume(out: &mut String, shape: Shape) -> Result<(), NoMemory>

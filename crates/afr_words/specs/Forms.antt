@@ -35,16 +35,17 @@ IsDashed word = slice_get (string_bytes word) 0 ≡ Some 45
 abbrev pub AreRefused : List (String Global) → Type 0
 AreRefused words = (words ≡ []) ⊎ (option_map string_bytes (slice_get words 0) ≡ Some (codes "help")) ⊎ Any IsDashed words
 
--- ---- runs by threads, which the forms above don't name
--- the word of such a run
+-- ---- runs by threads and crawls, which the forms above don't name
+-- the word of such a form
 abbrev pub live_word : LiveForm → List ℕ
 live_word live.Live = codes "live"
+live_word live.Crawl = codes "crawl"
 live_word live.Record = codes "record"
 
--- the words ask for this form of a run by threads
+-- the words ask for this one of them
 abbrev pub AskLive : List (String Global) → LiveForm → Type 0
 AskLive words form = map string_bytes words ≡ live_word form ∷ []
 
--- the words ask for a run by threads
+-- the words ask for a run by threads or a crawl
 abbrev pub AreLive : List (String Global) → Type 0
 AreLive words = (form : LiveForm) × AskLive words form

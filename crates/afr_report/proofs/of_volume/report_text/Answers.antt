@@ -1,18 +1,14 @@
-use Rattle.std.proofs.Common.{◌≡◌, IfOk, List, reverse, string_bytes, subst}
-use Rattle.afr_lines.specs.declared.line.Line.{Line}
-use Rattle.afr_plan.specs.declared.plan.Plan.{Plan}
-use Rattle.afr_model.specs.ReportHealers.{report_of}
-use Rattle.afr_report_info.proofs.VolumeLemmas.{handed_out}
+-- The report by whether the healers crawl.
+use Rattle.std.proofs.Common.{◌≡◌, ◌∙◌, Bool, IfOk, string_bytes, subst, sym}
+use Rattle.afr_report.specs.Workers.{report_for}
 use Rattle.afr_report.proofs.of_volume.report_text.Goals as goal
 
-pub returns : goal.returns
-returns c =
-    let held =
-    handed_out c.args.volume.now.plan c.plan.result.now c.args.volume.now.log (reverse c.lines.result.now.items) c.reach.result c.servers.result.now
-    c.plan.ensures c.lines.ensures c.reach.ensures c.servers.ensures.few c.servers.ensures.tables c.servers.ensures.started in
-    record {
-      ok =
-          subst (λ (p : Plan). IfOk c.print_report.result (λ text. string_bytes text ≡ report_of p c.args.volume.now.log)) c.plan.ensures
-          (subst (λ (log : List Line). IfOk c.print_report.result (λ text. string_bytes text ≡ report_of c.plan.result.now log)) c.lines.ensures
-          (c.print_report.ensures.ok held));
-    }
+pub returns-then-is_crawl : goal.returns-then-is_crawl
+returns-then-is_crawl c = record {
+  ok = subst (λ (crawl : Bool). IfOk c.crawl_text.result (λ text. string_bytes text ≡ report_for crawl c.args.volume.now.plan c.args.volume.now.log)) (sym (sym c.is_crawl.ensures ∙ c.if-is_crawl.true)) c.crawl_text.ensures.ok;
+}
+
+pub returns-else-is_crawl : goal.returns-else-is_crawl
+returns-else-is_crawl c = record {
+  ok = subst (λ (crawl : Bool). IfOk c.rounds_text.result (λ text. string_bytes text ≡ report_for crawl c.args.volume.now.plan c.args.volume.now.log)) (sym (sym c.is_crawl.ensures ∙ c.if-is_crawl.false)) c.rounds_text.ensures.ok;
+}
