@@ -1,0 +1,5 @@
+pub mod ActorLemmas
+pub mod ContentLemmas
+pub mod CountLemmas
+pub mod FlagLemmas
+pub mod PlaceLemmas

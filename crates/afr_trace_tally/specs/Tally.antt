@@ -1,0 +1,34 @@
+-- What is kept of a log: each field is what the definitions make of the lines so far.
+use Rattle.std.specs.Prelude.{◌≡◌, ℕ, ◌<◌, ◌≤◌, List, Some, length, map, reverse, slice_get}
+use Rattle.afr_base.specs.Bricks.{member}
+use Rattle.afr_lines.specs.Work.{events_made}
+use Rattle.afr_lines.specs.declared.line.Line.{Line}
+use Rattle.afr_lines.specs.declared.line.Line.TheVariants.{Ask}
+use Rattle.afr_model.specs.Report.{started_bricks}
+use Rattle.afr_plan.specs.declared.plan.Plan.{Plan}
+use Rattle.afr_trace_tally.specs.Actors.{IsActorTally}
+use Rattle.afr_trace_tally.specs.Bricks.{AreBricks}
+use Rattle.afr_trace_tally.specs.Contents.{AreInOrder, all_shown, contents_seen}
+use Rattle.afr_trace_tally.specs.Flags.{flags}
+use Rattle.afr_trace_tally.specs.declared.actors.ActorTally.{ActorTally}
+use Rattle.afr_trace_tally.specs.declared.tally.Tally.{Tally}
+
+-- twenty actors are kept, by their numbers; a volume has at most sixteen clients and three healers
+pub record AreActors (p : Plan) (log : List Line) (actors : List ActorTally) : Type 0 where
+  pub twenty : length actors ≡ 20
+  pub each : (a : ℕ) (t : ActorTally) → slice_get actors a ≡ Some t → IsActorTally p log a t
+
+-- what is kept is what the log has made
+pub record IsTally (p : Plan) (log : List Line) (t : Tally) : Type 0 where
+  pub bricks : AreBricks p log t.bricks.items
+  pub actors : AreActors p log t.actors
+  pub started : t.started ≡ flags (λ b. member (started_bricks p.shape.n log) b)
+  pub events : t.events ≡ events_made log
+  pub few_events : t.events ≤ length log
+  pub shown : reverse (map contents_seen t.shown.items) ≡ all_shown p log
+  pub order : AreInOrder (map contents_seen t.shown.items)
+
+-- a brick that a line asks is one of five
+abbrev pub AsksOneOfFive : Line → Type 0
+AsksOneOfFive (Ask a b request told took) = b.0 < 5
+AsksOneOfFive line = Unit {0}

@@ -1,0 +1,16 @@
+//! What the lines of a log have made of bricks and actors, kept up to date one line more at a time: tables, sums, locks, sessions, works.
+#![tactic(auto)]
+
+mod actors;
+mod bricks;
+mod contents;
+mod counts;
+mod locks;
+mod sessions;
+mod stop;
+mod tables;
+mod tally;
+mod works;
+
+pub use stop::TallyStop;
+pub use tally::Tally;
