@@ -3,3 +3,4 @@ pub mod ContentLemmas
 pub mod CountLemmas
 pub mod FlagLemmas
 pub mod PlaceLemmas
+pub mod TableLemmas

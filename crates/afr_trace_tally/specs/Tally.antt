@@ -28,7 +28,7 @@ pub record IsTally (p : Plan) (log : List Line) (t : Tally) : Type 0 where
   pub shown : reverse (map contents_seen t.shown.items) ≡ all_shown p log
   pub order : AreInOrder (map contents_seen t.shown.items)
 
--- a brick that a line asks is one of five
-abbrev pub AsksOneOfFive : Line → Type 0
-AsksOneOfFive (Ask a b request told took) = b.0 < 5
-AsksOneOfFive line = Unit {0}
+-- a line that asks is of one of twenty actors, and asks one of five bricks
+abbrev pub AsksKnown : Line → Type 0
+AsksKnown (Ask a b request told took) = (a.0 < 20) × (b.0 < 5)
+AsksKnown line = Unit {0}

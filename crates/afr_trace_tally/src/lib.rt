@@ -2,6 +2,7 @@
 #![tactic(auto)]
 
 mod actors;
+mod asked;
 mod bricks;
 mod contents;
 mod counts;

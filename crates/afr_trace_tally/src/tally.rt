@@ -11,7 +11,7 @@ ghost use Rattle.afr_plan.specs.declared.plan.Plan.{Plan};
 ghost use Rattle.afr_trace_tally.specs.Contents.{contents_seen, shown_at, shown_of};
 ghost use Rattle.afr_trace_tally.specs.Flags.{flags};
 ghost use Rattle.afr_trace_tally.specs.Room.{HasRoom};
-ghost use Rattle.afr_trace_tally.specs.Tally.{AreActors, AsksOneOfFive, IsTally};
+ghost use Rattle.afr_trace_tally.specs.Tally.{AreActors, AsksKnown, IsTally};
 
 use crate::actors::{ActorTally, first_started, new_actor, next_actor, next_started};
 use crate::bricks::{BrickTally, add_to_bricks, new_bricks};
@@ -84,7 +84,7 @@ fn shown_now(
     older: &[Line],
 ) -> Result<Kept, NoMemory>
     requires are { AreBricks plan.now (reverse older.now) bricks.now }
-    requires brick { AsksOneOfFive line.now }
+    requires known { AsksKnown line.now }
     ensures ok { IfOk result (λ kept. contents_seen kept ≡ shown_at (plain_tables plan.now (reverse older.now)).now line.now) }
     ensures order { IfOk result (λ kept. IsInOrder (contents_seen kept)) }
 {
@@ -127,7 +127,7 @@ impl Tally {
         line: &Line,
     ) -> Result<(), TallyStop>
         requires was { IsTally plan.now (reverse older.now) self.old }
-        requires brick { AsksOneOfFive line.now }
+        requires known { AsksKnown line.now }
         requires few { length older.now < 2147483648 }
         ensures ok { OnOk result (IsTally plan.now (line.now ∷ reverse older.now) self.new) }
         ensures too_long { result ≡ Err TallyStop.TooLong → HasRoom plan.now line.now (reverse older.now) → ⊥ }

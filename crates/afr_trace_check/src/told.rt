@@ -1,0 +1,221 @@
+//! What a brick tells of a request that it carries out.
+ghost use Rattle.std.specs.Prelude.{◌≡◌, ◌↔◌, ◌<◌, ℕ, true, length, reverse, slice_get, if◌then◌else◌};
+ghost use Rattle.std.specs.Option.{option_copied};
+ghost use Rattle.afr_lines.specs.Log.{change_at, change_of, from_oldest};
+ghost use Rattle.afr_lines.specs.Told.{told_by};
+ghost use Rattle.afr_model.specs.Honest.{lock_answer};
+ghost use Rattle.afr_model.specs.Sums.{has_object};
+ghost use Rattle.afr_object.specs.Repairs.{repaired};
+ghost use Rattle.afr_object.specs.Tables.{object_of};
+ghost use Rattle.afr_trace_build.specs.Shown.{all_sums_of, sums_of, view_shown};
+ghost use Rattle.afr_trace_check.specs.Honest.{look_told, told_by_sums};
+ghost use Rattle.afr_trace_tally.specs.Tally.{IsTally};
+
+use afr_base::{ActorId, AllMarks, BrickId, Gfid, Kind};
+use afr_lines::{Area, Domain, Line, Request, Told};
+use afr_object::{Change, Repair, View};
+use afr_plan::Plan;
+use afr_trace_tally::Tally;
+
+/// What a request is told that the brick carries out.
+#[tactic(auto, using(crate::proofs::ToldLemmas::bytes_told, crate::proofs::ToldLemmas::name_told, crate::proofs::ToldLemmas::list_told, crate::proofs::ToldLemmas::attr_told, crate::proofs::ToldLemmas::attrs_told, crate::proofs::ToldLemmas::pre_told, crate::proofs::ToldLemmas::post_told, crate::proofs::ToldLemmas::mend_told, crate::proofs::ToldLemmas::settle_told))]
+pub(crate) fn told(
+    tally: &Tally,
+    plan: &Plan,
+    log: &[Line],
+    a: ActorId,
+    b: BrickId,
+    request: &Request,
+) -> Told
+    requires tally { IsTally plan.now (reverse log.now) tally.now }
+    requires brick { b.0 < 5 }
+    requires few { length log.now < 2147483648 }
+    ensures { result ≡ told_by_sums plan.now a request.now b.0 (reverse log.now) }
+{
+    match request {
+        Request::Lock { domain, area } => lock_told(tally.conflict(plan, log, b, a, *domain, area)),
+        Request::Unlock { .. } => Told::Done,
+        Request::Look { gfid } => look_told(tally, plan, log, b, *gfid),
+        Request::ReadBytes { gfid, .. } => if_there(tally, plan, log, b, *gfid, Told::Given),
+        Request::ReadName { gfid, .. } => if_there(tally, plan, log, b, *gfid, Told::Given),
+        Request::List { gfid } => if_there(tally, plan, log, b, *gfid, Told::Given),
+        Request::ReadAttr { gfid, .. } => if_there(tally, plan, log, b, *gfid, Told::Given),
+        Request::ReadAttrs { gfid } => if_there(tally, plan, log, b, *gfid, Told::Given),
+        Request::Index => Told::Given,
+        Request::Pre { gfid, .. } => if_there(tally, plan, log, b, *gfid, Told::Done),
+        Request::Apply { attempt } => apply_told(tally, plan, log, a, b, *attempt),
+        Request::Post { gfid, .. } => if_there(tally, plan, log, b, *gfid, Told::Done),
+        Request::Mend { repair } => if_there(tally, plan, log, b, repaired(*repair), Told::Done),
+        Request::Settle { gfid, .. } => if_there(tally, plan, log, b, *gfid, Told::Done),
+    }
+}
+
+fn lock_told(way: Option<ActorId>) -> Told
+    ensures { result ≡ told_by (lock_answer way) }
+{
+    match way {
+        None => Told::Granted,
+        Some(owner) => Told::Held(owner),
+    }
+}
+
+fn if_there(
+    tally: &Tally,
+    plan: &Plan,
+    log: &[Line],
+    b: BrickId,
+    g: Gfid,
+    told: Told,
+) -> Told
+    requires tally { IsTally plan.now (reverse log.now) tally.now }
+    requires brick { b.0 < 5 }
+    ensures { result ≡ (if has_object plan.now (reverse log.now) g b.0 then told else Told.NoObject) }
+{
+    if tally.has_object(plan, log, b, g) {
+        told
+    } else {
+        Told::NoObject
+    }
+}
+
+// ---- looks
+
+/// The numbers of each kind, as sums.
+fn all_marks(tally: &Tally, plan: &Plan, log: &[Line], b: BrickId, g: Gfid) -> AllMarks
+    requires tally { IsTally plan.now (reverse log.now) tally.now }
+    requires brick { b.0 < 5 }
+    requires few { length log.now < 2147483648 }
+    ensures { result ≡ all_sums_of plan.now (reverse log.now) b.0 g }
+{
+    AllMarks {
+        bytes: tally.marks(plan, log, b, g, Kind::Bytes),
+        attrs: tally.marks(plan, log, b, g, Kind::Attrs),
+        names: tally.marks(plan, log, b, g, Kind::Names),
+    }
+}
+
+fn look_told(tally: &Tally, plan: &Plan, log: &[Line], b: BrickId, g: Gfid) -> Told
+    requires tally { IsTally plan.now (reverse log.now) tally.now }
+    requires brick { b.0 < 5 }
+    requires few { length log.now < 2147483648 }
+    ensures { result ≡ look_told plan.now (reverse log.now) b.0 g }
+{
+    match tally.look(plan, log, b, g) {
+        Some(view) => Told::Seen(View {
+            what: view.what,
+            len: view.len,
+            marks: all_marks(tally, plan, log, b, g),
+        }),
+        None => Told::NoObject,
+    }
+}
+
+// ---- attempts
+
+fn line_at(log: &[Line], position: usize) -> Option<&Line>
+    ensures { option_copied result ≡ from_oldest position (reverse log.now) }
+{
+    item_at(log, position)
+}
+
+fn item_at(log: &[Line], position: usize) -> Option<&Line>
+    ensures { option_copied result ≡ slice_get log.now position }
+{
+    log.get(position)
+}
+
+/// The change of the attempt that begins at a position.
+fn change_at(log: &[Line], position: usize) -> Option<&Change>
+    ensures { option_copied result ≡ change_at position (reverse log.now) }
+{
+    match line_at(log, position) {
+        Some(line) => change_of(line),
+        None => None,
+    }
+}
+
+fn change_of(line: &Line) -> Option<&Change>
+    ensures { option_copied result ≡ change_of line.now }
+{
+    match line {
+        Line::Begin { change, .. } => Some(change),
+        _ => None,
+    }
+}
+
+fn apply_told(
+    tally: &Tally,
+    plan: &Plan,
+    log: &[Line],
+    a: ActorId,
+    b: BrickId,
+    attempt: u32,
+) -> Told
+    requires tally { IsTally plan.now (reverse log.now) tally.now }
+    requires brick { b.0 < 5 }
+    ensures { result ≡ told_by_sums plan.now a (Request.Apply attempt) b.0 (reverse log.now) }
+{
+    let _a = a;
+    match change_at(log, attempt as usize) {
+        Some(change) => if_there(tally, plan, log, b, object_of(change), Told::Done),
+        None => Told::NoObject,
+    }
+}
+
+/// The object that a change is of: for a name, its directory.
+fn object_of(change: &Change) -> Gfid
+    ensures { result ≡ object_of change.now }
+{
+    match change {
+        Change::Write { gfid, .. } => *gfid,
+        Change::Cut { gfid, .. } => *gfid,
+        Change::SetAttr { gfid, .. } => *gfid,
+        Change::Make { dir, .. } => *dir,
+        Change::Remove { dir, .. } => *dir,
+    }
+}
+
+fn repaired(repair: Repair) -> Gfid
+    ensures { result ≡ repaired repair }
+{
+    match repair {
+        Repair::CutTo { gfid, .. } => gfid,
+        Repair::Copy { gfid, .. } => gfid,
+        Repair::PutAttrs { gfid, .. } => gfid,
+        Repair::PutNames { gfid, .. } => gfid,
+    }
+}
+
+/// Whether two lines were told the same.
+pub(crate) fn same_told(one: Told, other: Told) -> bool
+    ensures { (result ≡ true) ↔ (one ≡ other) }
+{
+    match one {
+        Told::Granted => matches!(other, Told::Granted),
+        Told::Held(owner) => is_held(other, owner),
+        Told::Seen(view) => is_seen(other, view),
+        Told::Done => matches!(other, Told::Done),
+        Told::Given => matches!(other, Told::Given),
+        Told::NoObject => matches!(other, Told::NoObject),
+        Told::NotConnected => matches!(other, Told::NotConnected),
+        Told::Failed => matches!(other, Told::Failed),
+    }
+}
+
+fn is_held(told: Told, owner: ActorId) -> bool
+    ensures { (result ≡ true) ↔ (Told.Held owner ≡ told) }
+{
+    match told {
+        Told::Held(other) => other == owner,
+        _ => false,
+    }
+}
+
+fn is_seen(told: Told, view: View) -> bool
+    ensures { (result ≡ true) ↔ (Told.Seen view ≡ told) }
+{
+    match told {
+        Told::Seen(other) => other == view,
+        _ => false,
+    }
+}
