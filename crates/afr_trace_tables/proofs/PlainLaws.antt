@@ -48,7 +48,7 @@ attrs_plain : (plain past : Past) → IsBare plain past → (k : ℕ) (o : Optio
 attrs_plain plain past h k (Some (Ask a b (request.ReadAttrs g) told took)) = ap (λ (t : Table). attrs_in (copy_at g t)) (h k b.0) ∙ ap attrs_in (copy_bare g (past k b.0)) ∙ attrs_same (copy_at g (past k b.0))
 attrs_plain plain past h k other = refl
 
-names_plain : (plain past : Past) → IsBare plain past → (k : ℕ) (o : Option Line) → names_shown plain k o ≡ names_shown past k o
+pub names_plain : (plain past : Past) → IsBare plain past → (k : ℕ) (o : Option Line) → names_shown plain k o ≡ names_shown past k o
 names_plain plain past h k (Some (Ask a b (request.List g) told took)) = ap (λ (t : Table). names_in (copy_at g t)) (h k b.0) ∙ ap names_in (copy_bare g (past k b.0)) ∙ names_same (copy_at g (past k b.0))
 names_plain plain past h k other = refl
 

@@ -22,7 +22,7 @@ use Rattle.afr_object.specs.declared.change.Repair.TheVariants.{CutTo, Copy, Put
 use Rattle.afr_object.specs.declared.entry.Entry.{Entry}
 use Rattle.afr_plan.specs.declared.plan.Plan.{Plan}
 use Rattle.afr_trace_tables.specs.Plain.{plain_tables}
-use Rattle.afr_trace_tally.specs.Contents.{AreInOrder, Brings, all_shown, attrs_among, bytes_among, carried_for, carried_of, kept_at, names_among, names_by, names_kept, or_nothing, repair_in, shown_at, shown_of}
+use Rattle.afr_trace_tally.specs.Contents.{AreKept, Brings, IsShort, all_shown, attrs_among, bytes_among, carried_for, carried_of, kept_at, names_among, names_by, names_kept, or_nothing, repair_in, shown_at, shown_of}
 
 -- ---- order
 -- no entries are in order
@@ -30,14 +30,19 @@ pub none_in_order : {K : Type 0} (cmp : K → K → Ordering) → IsStrictlySort
 unfolding IsStrictlySortedBy
 none_in_order cmp = tt
 
-pub in_order_at : (kept : List Contents) (k : ℕ) → AreInOrder kept → IsInOrder (kept_at k kept)
+pub in_order_at : (kept : List Contents) (k : ℕ) → AreKept kept → IsInOrder (kept_at k kept)
 in_order_at [] k h = tt
 in_order_at (x ∷ kept) zero h = h.0
-in_order_at (x ∷ kept) (suc k) h = in_order_at kept k h.1
+in_order_at (x ∷ kept) (suc k) h = in_order_at kept k h.2
 
-pub in_order_push : (kept : List Contents) (x : Contents) → AreInOrder kept → IsInOrder x → AreInOrder (kept ++ x ∷ [])
-in_order_push [] x h i = (i, tt)
-in_order_push (y ∷ kept) x h i = (h.0, in_order_push kept x h.1 i)
+pub short_at : (kept : List Contents) (k : ℕ) → AreKept kept → IsShort (kept_at k kept)
+short_at [] k h = tt
+short_at (x ∷ kept) zero h = h.1
+short_at (x ∷ kept) (suc k) h = short_at kept k h.2
+
+pub kept_push : (kept : List Contents) (x : Contents) → AreKept kept → IsInOrder x → IsShort x → AreKept (kept ++ x ∷ [])
+kept_push [] x h i s = (i, s, tt)
+kept_push (y ∷ kept) x h i s = (h.0, h.1, kept_push kept x h.2 i s)
 
 -- ---- merged names
 -- one name more is merged
@@ -121,3 +126,7 @@ brings p line older kept c e is = tt
 -- how many bytes a read showed
 pub read_is : (p : Plan) (log : List Line) (kept : List Contents) → reverse kept ≡ all_shown p log → (k : ℕ) → bytes_among (kept_at k kept) ≡ bytes_shown (plain_tables p log).past k (from_oldest k log)
 read_is p log kept e k = ap bytes_among (kept_is p log kept e k) ∙ bytes_are (plain_tables p log).past k (from_oldest k log)
+
+-- the names that a list showed
+pub list_is : (p : Plan) (log : List Line) (kept : List Contents) → reverse kept ≡ all_shown p log → (k : ℕ) → names_among (kept_at k kept) ≡ names_shown (plain_tables p log).past k (from_oldest k log)
+list_is p log kept e k = ap names_among (kept_is p log kept e k) ∙ names_are (plain_tables p log).past k (from_oldest k log)

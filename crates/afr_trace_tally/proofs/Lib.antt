@@ -4,3 +4,4 @@ pub mod CountLemmas
 pub mod FlagLemmas
 pub mod PlaceLemmas
 pub mod TableLemmas
+pub mod LogLemmas

@@ -5,12 +5,12 @@ use Rattle.afr_base.specs.declared.ids.Gfid.{Gfid}
 use Rattle.afr_lines.specs.Log.{from_oldest}
 use Rattle.afr_lines.specs.declared.line.Line.{Line}
 use Rattle.afr_model.specs.Sums.{has_object}
-use Rattle.afr_model.specs.Tables.{bytes_shown, held_before, holds}
+use Rattle.afr_model.specs.Tables.{bytes_shown, held_before, holds, names_shown}
 use Rattle.afr_object.specs.Object.{Object}
 use Rattle.afr_object.specs.Tables.{Table, copy_at, view_of}
 use Rattle.afr_plan.specs.declared.plan.Plan.{Plan}
 use Rattle.afr_trace_tables.proofs.BareLaws.{copy_bare}
-use Rattle.afr_trace_tables.proofs.PlainLaws.{bytes_plain, now_bare, past_bare}
+use Rattle.afr_trace_tables.proofs.PlainLaws.{bytes_plain, names_plain, now_bare, past_bare}
 use Rattle.afr_trace_tables.specs.Plain.{bare_object, plain_tables}
 
 -- a look finds what the brick has
@@ -25,3 +25,7 @@ there p log g b =
 -- a read shows the same bytes
 pub bytes_past : (p : Plan) (log : List Line) (k : ℕ) → bytes_shown (plain_tables p log).past k (from_oldest k log) ≡ bytes_shown (held_before p log) k (from_oldest k log)
 bytes_past p log k = bytes_plain (plain_tables p log).past (held_before p log) (past_bare p log) k (from_oldest k log)
+
+-- so it does the same names
+pub names_past : (p : Plan) (log : List Line) (k : ℕ) → names_shown (plain_tables p log).past k (from_oldest k log) ≡ names_shown (held_before p log) k (from_oldest k log)
+names_past p log k = names_plain (plain_tables p log).past (held_before p log) (past_bare p log) k (from_oldest k log)

@@ -1,5 +1,5 @@
 -- What read lines showed, and what a repair carries of it.
-use Rattle.std.specs.Prelude.{◌≡◌, ℕ, ◌==◌, ◌&&◌, List, [], ◌∷◌, Option, Some, None, drop, slice_get, take, if◌then◌else◌}
+use Rattle.std.specs.Prelude.{◌≡◌, ℕ, ◌<◌, ◌^◌, List, [], ◌∷◌, Option, Some, None, drop, length, slice_get, take}
 use Rattle.afr_base.specs.declared.ids.BrickId.{BrickId}
 use Rattle.afr_base.specs.declared.ids.KeyId.{KeyId}
 use Rattle.afr_base.specs.declared.ids.NameId.{NameId}
@@ -86,10 +86,15 @@ carried_of kept (Copy g at span read) = Bytes (bytes_among (kept_at read kept))
 carried_of kept (PutAttrs g read) = Attrs (attrs_among (kept_at read kept))
 carried_of kept (PutNames g reads) = Names (merged (names_kept kept reads))
 
--- each stands in order
-abbrev pub AreInOrder : List Contents → Type 0
-AreInOrder [] = Unit {0}
-AreInOrder (x ∷ kept) = IsInOrder x × AreInOrder kept
+-- a read shows fewer bytes than 32 bits can count
+abbrev pub IsShort : Contents → Type 0
+IsShort (Bytes bytes) = length bytes < 2 ^ 32
+IsShort contents = Unit {0}
+
+-- all stand in order, and are short
+abbrev pub AreKept : List Contents → Type 0
+AreKept [] = Unit {0}
+AreKept (x ∷ kept) = IsInOrder x × IsShort x × AreKept kept
 
 -- the repair of a line that was carried out
 abbrev pub repair_in : Line → Option Repair

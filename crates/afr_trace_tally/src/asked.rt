@@ -1,5 +1,5 @@
 //! What a tally tells of its log.
-ghost use Rattle.std.specs.Prelude.{◌≡◌, ◌-◌, ◌<◌, ◌≤◌, ℕ, reverse, length, slice_index, option_map};
+ghost use Rattle.std.specs.Prelude.{◌≡◌, ◌-◌, ◌<◌, ◌≤◌, ℕ, reverse, length, slice_index, option_map, IfOk};
 ghost use Rattle.afr_base.specs.Bricks.{member};
 ghost use Rattle.afr_lines.specs.Locks.{first_conflict};
 ghost use Rattle.afr_lines.specs.Overlap.{overlap};
@@ -9,27 +9,29 @@ ghost use Rattle.afr_model.specs.Locks.{locks_held};
 ghost use Rattle.afr_model.specs.Report.{started_bricks};
 ghost use Rattle.afr_model.specs.Sessions.{is_joined, is_linked, opens_with};
 ghost use Rattle.afr_model.specs.Sums.{dirty_of, has_object, pending_of};
-ghost use Rattle.afr_model.specs.Tables.{bytes_shown, held_before, holds};
+ghost use Rattle.afr_model.specs.Tables.{bytes_shown, held_before, names_shown};
 ghost use Rattle.afr_lines.specs.Log.{from_oldest};
 ghost use Rattle.afr_object.specs.Tables.{copy_at, view_of};
 ghost use Rattle.afr_trace_tables.specs.Plain.{plain_tables};
 ghost use Rattle.afr_trace_tally.specs.Actors.{IsActorTally};
 ghost use Rattle.afr_trace_tally.specs.Bricks.{IsBrickTally};
+ghost use Rattle.afr_trace_tally.specs.Contents.{IsShort, bytes_among, contents_seen};
 ghost use Rattle.afr_trace_tally.specs.Counts.{IsSmall, count_of};
 ghost use Rattle.afr_trace_tally.specs.Flags.{five};
 ghost use Rattle.afr_trace_tally.specs.Tally.{IsTally};
 
 use crate::actors::ActorTally;
 use crate::bricks::BrickTally;
-use crate::contents::{Kept, kept_at};
+use crate::contents::{Kept, kept_at, names_in};
 use crate::counts::{Count, count_at};
 use crate::locks::first_conflict;
 use crate::sessions::opens_with;
 use crate::tally::Tally;
-use afr_base::{ActorId, BrickId, Gfid, Kind, Marks};
+use afr_base::{ActorId, BrickId, Gfid, Kind, Marks, NoMemory};
 use afr_lines::{Area, Domain, Line};
-use afr_object::View;
+use afr_object::{List, NameList, View};
 use afr_plan::Plan;
+use std::alloc::Global;
 
 fn less(more: u64, taken: u64) -> u32
     requires { more < 2147483648 }
@@ -52,6 +54,19 @@ fn marks_in(count: &Count) -> Marks
             less(count.blamed[3], count.settled[3]),
             less(count.blamed[4], count.settled[4]),
         ],
+    }
+}
+
+/// How many bytes contents have.
+fn len_in(kept: &Kept) -> u32
+    requires { IsShort (contents_seen kept.now) }
+    ensures { result ≡ length (bytes_among (contents_seen kept.now)) }
+{
+    match kept {
+        Kept::Bytes(bytes) => bytes.len() as u32,
+        Kept::Nothing => 0,
+        Kept::Attrs(_) => 0,
+        Kept::Names(_) => 0,
     }
 }
 
@@ -228,18 +243,34 @@ impl Tally {
     // ---- reads
 
     /// How many bytes the line at a position showed.
-    pub fn read_len(&self, plan: &Plan, log: &[Line], position: u32) -> usize
+    pub fn read_len(&self, plan: &Plan, log: &[Line], position: u32) -> u32
         requires tally { IsTally plan.now (reverse log.now) self.now }
         ensures { result ≡ length (bytes_shown (held_before plan.now (reverse log.now)) position (from_oldest position (reverse log.now))) }
     {
         let _plan = plan;
         let _log = log;
         match kept_at(self.shown.as_slice(), position) {
-            Some(Kept::Bytes(bytes)) => bytes.len(),
-            Some(Kept::Nothing) => 0,
-            Some(Kept::Attrs(_)) => 0,
-            Some(Kept::Names(_)) => 0,
+            Some(kept) => len_in(kept),
             None => 0,
+        }
+    }
+
+    /// The names that the line at a position showed.
+    pub fn names_shown(
+        &self,
+        alloc: Global,
+        plan: &Plan,
+        log: &[Line],
+        position: u32,
+    ) -> Result<NameList, NoMemory>
+        requires tally { IsTally plan.now (reverse log.now) self.now }
+        ensures { IfOk result (λ names. names ≡ names_shown (held_before plan.now (reverse log.now)) position (from_oldest position (reverse log.now))) }
+    {
+        let _plan = plan;
+        let _log = log;
+        match kept_at(self.shown.as_slice(), position) {
+            Some(kept) => names_in(alloc, kept),
+            None => Ok(List::new(alloc)),
         }
     }
 }

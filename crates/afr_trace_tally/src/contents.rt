@@ -6,7 +6,7 @@ ghost use Rattle.std.specs.Option.{option_copied};
 ghost use Rattle.afr_object.specs.State.{CanRepair, IsInOrder, contents_of};
 ghost use Rattle.afr_object.specs.Repairs.{higher, mended, merged, merged_into, outranks};
 ghost use Rattle.afr_object.specs.Tables.{key_cmp, name_cmp};
-ghost use Rattle.afr_trace_tally.specs.Contents.{AreInOrder, asked_by, attrs_among, bytes_among, carried_for, carried_of, contents_seen, kept_at, names_among, names_by, names_kept, or_nothing, repair_in, shown_of};
+ghost use Rattle.afr_trace_tally.specs.Contents.{AreKept, IsShort, asked_by, attrs_among, bytes_among, carried_for, carried_of, contents_seen, kept_at, names_among, names_by, names_kept, or_nothing, repair_in, shown_of};
 
 use crate::stop::TallyStop;
 use afr_base::{BrickId, Gfid, LONGEST_FILE, NameId, NoMemory, What};
@@ -42,6 +42,7 @@ pub(crate) fn asked_by(line: &Line) -> Option<(BrickId, &Request)>
 pub(crate) fn shown_of(alloc: Global, brick: &Brick, request: &Request) -> Result<Kept, NoMemory>
     ensures ok { IfOk result (λ kept. contents_seen kept ≡ shown_of request.now brick.now.objects) }
     ensures order { IfOk result (λ kept. IsInOrder (contents_seen kept)) }
+    ensures short { IfOk result (λ kept. IsShort (contents_seen kept)) }
 {
     match request {
         Request::ReadBytes { gfid, at, len } => bytes_of(alloc, brick, *gfid, *at, *len),
@@ -54,6 +55,7 @@ pub(crate) fn shown_of(alloc: Global, brick: &Brick, request: &Request) -> Resul
 fn bytes_of(alloc: Global, brick: &Brick, g: Gfid, at: u32, len: u32) -> Result<Kept, NoMemory>
     ensures ok { IfOk result (λ kept. contents_seen kept ≡ shown_of (Request.ReadBytes g at len) brick.now.objects) }
     ensures order { IfOk result (λ kept. IsInOrder (contents_seen kept)) }
+    ensures short { IfOk result (λ kept. IsShort (contents_seen kept)) }
 {
     match brick.read_bytes(g, at, len) {
         Ok(bytes) => Ok(Kept::Bytes(bytes)),
@@ -65,6 +67,7 @@ fn bytes_of(alloc: Global, brick: &Brick, g: Gfid, at: u32, len: u32) -> Result<
 fn attrs_of(alloc: Global, brick: &Brick, g: Gfid) -> Result<Kept, NoMemory>
     ensures ok { IfOk result (λ kept. contents_seen kept ≡ shown_of (Request.ReadAttrs g) brick.now.objects) }
     ensures order { IfOk result (λ kept. IsInOrder (contents_seen kept)) }
+    ensures short { IfOk result (λ kept. IsShort (contents_seen kept)) }
 {
     match brick.read_attrs(g) {
         Ok(attrs) => Ok(Kept::Attrs(attrs)),
@@ -76,6 +79,7 @@ fn attrs_of(alloc: Global, brick: &Brick, g: Gfid) -> Result<Kept, NoMemory>
 fn names_of(alloc: Global, brick: &Brick, g: Gfid) -> Result<Kept, NoMemory>
     ensures ok { IfOk result (λ kept. contents_seen kept ≡ shown_of (Request.List g) brick.now.objects) }
     ensures order { IfOk result (λ kept. IsInOrder (contents_seen kept)) }
+    ensures short { IfOk result (λ kept. IsShort (contents_seen kept)) }
 {
     match brick.list(g) {
         Ok(names) => Ok(Kept::Names(names)),
@@ -118,6 +122,17 @@ fn bytes_at(alloc: Global, shown: &[Kept], position: u32) -> Result<Chunk, NoMem
     }
 }
 
+pub(crate) fn names_in(alloc: Global, kept: &Kept) -> Result<NameList, NoMemory>
+    ensures { IfOk result (λ names. names ≡ names_among (contents_seen kept.now)) }
+{
+    match kept {
+        Kept::Names(names) => names.copy(),
+        Kept::Nothing => Ok(List::new(alloc)),
+        Kept::Bytes(_) => Ok(List::new(alloc)),
+        Kept::Attrs(_) => Ok(List::new(alloc)),
+    }
+}
+
 fn attrs_in(alloc: Global, kept: &Kept) -> Result<AttrList, NoMemory>
     requires { IsInOrder (contents_seen kept.now) }
     ensures only { IfOk result (λ attrs. attrs ≡ attrs_among (contents_seen kept.now)) }
@@ -132,7 +147,7 @@ fn attrs_in(alloc: Global, kept: &Kept) -> Result<AttrList, NoMemory>
 }
 
 fn attrs_at(alloc: Global, shown: &[Kept], position: u32) -> Result<AttrList, NoMemory>
-    requires { AreInOrder (map contents_seen shown.now) }
+    requires { AreKept (map contents_seen shown.now) }
     ensures only { IfOk result (λ attrs. attrs ≡ attrs_among (kept_at position (map contents_seen shown.now))) }
     ensures order { IfOk result (λ attrs. IsStrictlySortedBy key_cmp (keys_of attrs)) }
 {
@@ -228,7 +243,7 @@ fn names_at(alloc: Global, shown: &[Kept], reads: &[Option<u32>]) -> Result<Name
 
 /// What a repair carries of what was shown.
 fn carried_of(alloc: Global, shown: &[Kept], repair: &Repair) -> Result<Kept, NoMemory>
-    requires { AreInOrder (map contents_seen shown.now) }
+    requires { AreKept (map contents_seen shown.now) }
     ensures ok { IfOk result (λ kept. contents_seen kept ≡ carried_of (map contents_seen shown.now) repair.now) }
     ensures order { IfOk result (λ kept. IsInOrder (contents_seen kept)) }
 {
@@ -263,7 +278,7 @@ fn repair_in(line: &Line) -> Option<Repair>
 
 /// What the repair of a line carries.
 pub(crate) fn carried_for(alloc: Global, shown: &[Kept], line: &Line) -> Result<Kept, NoMemory>
-    requires { AreInOrder (map contents_seen shown.now) }
+    requires { AreKept (map contents_seen shown.now) }
     ensures ok { IfOk result (λ kept. contents_seen kept ≡ carried_for (map contents_seen shown.now) (repair_in line.now)) }
     ensures order { IfOk result (λ kept. IsInOrder (contents_seen kept)) }
 {

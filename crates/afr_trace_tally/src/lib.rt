@@ -14,4 +14,5 @@ mod tally;
 mod works;
 
 pub use stop::TallyStop;
-pub use tally::Tally;
+pub use tally::{Tally, asks_known};
+pub use works::{is_end, is_of};

@@ -1,5 +1,5 @@
 //! All that is kept of a log, one line more at a time.
-ghost use Rattle.std.specs.Prelude.{Err, ◌≡◌, ◌+◌, ◌-◌, ◌<◌, ◌≤◌, ◌^◌, [], ◌∷◌, length, reverse, IfOk, OnOk, if◌then◌else◌};
+ghost use Rattle.std.specs.Prelude.{Err, true, ◌≡◌, ◌↔◌, ◌+◌, ◌-◌, ◌<◌, ◌≤◌, ◌^◌, [], ◌∷◌, length, reverse, IfOk, OnOk, if◌then◌else◌};
 ghost use Rattle.afr_lines.specs.Work.{is_event};
 ghost use Rattle.afr_base.specs.Bricks.{member};
 ghost use Rattle.afr_model.specs.Report.{started_bricks};
@@ -8,7 +8,7 @@ ghost use Rattle.afr_trace_tables.specs.Plain.{plain_tables};
 ghost use Rattle.afr_trace_tally.specs.Bricks.{AreBricks};
 ghost use Rattle.afr_lines.specs.declared.line.Line.{Line};
 ghost use Rattle.afr_plan.specs.declared.plan.Plan.{Plan};
-ghost use Rattle.afr_trace_tally.specs.Contents.{contents_seen, shown_at, shown_of};
+ghost use Rattle.afr_trace_tally.specs.Contents.{IsShort, contents_seen, shown_at, shown_of};
 ghost use Rattle.afr_trace_tally.specs.Flags.{flags};
 ghost use Rattle.afr_trace_tally.specs.Room.{HasRoom};
 ghost use Rattle.afr_trace_tally.specs.Tally.{AreActors, AsksKnown, IsTally};
@@ -31,6 +31,20 @@ pub struct Tally {
     pub(crate) started: [bool; 5],
     pub(crate) events: u32,
     pub(crate) shown: Vec<Kept>,
+}
+
+/// Whether the line, where it asks, is of one of twenty actors and asks one of five bricks.
+pub fn asks_known(line: &Line) -> bool
+    ensures { (result ≡ true) ↔ AsksKnown line.now }
+{
+    match line {
+        Line::Ask { actor, brick, .. } => actor.0 < 20 && brick.0 < 5,
+        Line::Begin { .. } => true,
+        Line::HealBegin { .. } => true,
+        Line::End { .. } => true,
+        Line::HealEnd { .. } => true,
+        Line::Event { .. } => true,
+    }
 }
 
 fn new_actors() -> [ActorTally; 20]
@@ -69,6 +83,7 @@ fn shown_by_brick(
     requires brick { b.0 < 5 }
     ensures ok { IfOk result (λ kept. contents_seen kept ≡ shown_of request.now ((plain_tables plan.now (reverse older.now)).now b.0)) }
     ensures order { IfOk result (λ kept. IsInOrder (contents_seen kept)) }
+    ensures short { IfOk result (λ kept. IsShort (contents_seen kept)) }
 {
     let _plan = plan;
     let _older = older;
@@ -87,6 +102,7 @@ fn shown_now(
     requires known { AsksKnown line.now }
     ensures ok { IfOk result (λ kept. contents_seen kept ≡ shown_at (plain_tables plan.now (reverse older.now)).now line.now) }
     ensures order { IfOk result (λ kept. IsInOrder (contents_seen kept)) }
+    ensures short { IfOk result (λ kept. IsShort (contents_seen kept)) }
 {
     match asked_by(line) {
         Some((b, request)) => shown_by_brick(alloc, bricks, plan, older, b, request),

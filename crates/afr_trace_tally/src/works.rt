@@ -1,12 +1,12 @@
 //! Whose a line is, and what it says of the works of an actor.
 ghost use Rattle.std.specs.Prelude.{◌≡◌};
-ghost use Rattle.afr_lines.specs.Work.{ends_work, is_event, is_of, kills};
+ghost use Rattle.afr_lines.specs.Work.{ends_work, is_end, is_event, is_of, kills};
 
 use afr_base::ActorId;
 use afr_lines::{Event, Line};
 
 /// Whether the actor wrote the line. An event is nobody's.
-pub(crate) fn is_of(a: ActorId, line: &Line) -> bool
+pub fn is_of(a: ActorId, line: &Line) -> bool
     ensures { result ≡ is_of a.0 line.now }
 {
     match line {
@@ -16,6 +16,16 @@ pub(crate) fn is_of(a: ActorId, line: &Line) -> bool
         Line::End { actor, .. } => *actor == a,
         Line::HealEnd { actor, .. } => *actor == a,
         Line::Event { .. } => false,
+    }
+}
+
+/// Whether a line ends a work.
+pub fn is_end(line: &Line) -> bool
+    ensures { result ≡ is_end line.now }
+{
+    match line {
+        Line::End { .. } => true,
+        _ => false,
     }
 }
 
