@@ -3,7 +3,9 @@
 
 mod finding;
 mod honest;
+mod showing;
 mod told;
 
 pub use finding::{Finding, Rule};
 pub use honest::is_honest;
+pub use showing::shown_by;

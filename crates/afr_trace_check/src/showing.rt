@@ -1,13 +1,17 @@
 //! What the lines before a line show of what its text leaves out, by their tally.
-ghost use Rattle.std.specs.Prelude.{◌≡◌, ◌<◌, Bool, reverse, length, IfOk, if◌then◌else◌};
+ghost use Rattle.std.specs.Prelude.{◌≡◌, ◌<◌, Bool, reverse, length, IfOk};
+ghost use Rattle.afr_base.specs.declared.ids.Gfid.{Gfid};
+ghost use Rattle.afr_base.specs.declared.ids.Kind.{Kind};
+ghost use Rattle.afr_base.specs.declared.ids.ActorId.{ActorId};
 ghost use Rattle.afr_lines.specs.Areas.{object_of_area};
 ghost use Rattle.afr_lines.specs.Work.{work};
 ghost use Rattle.afr_model.specs.Healing.{is_border};
 ghost use Rattle.afr_model.specs.Showing.{look_shows, looked_after, looked_by};
 ghost use Rattle.afr_trace_build.specs.Shown.{ask_shown, last_listed, last_object, last_views, looked_object, shown_by, view_shown};
-ghost use Rattle.afr_trace_check.specs.Works.{AsksFive, in_work};
+ghost use Rattle.afr_trace_check.specs.Works.{AsksFive, in_work, last_list, lists};
 ghost use Rattle.afr_trace_tally.specs.Tally.{AreKnown, AsksKnown, IsTally};
 
+use crate::told::view_shown;
 use afr_base::{ActorId, BrickId, Gfid, NoMemory};
 use afr_choice::Looked;
 use afr_lines::{Area, Domain, Line, Request, Told};
@@ -57,6 +61,7 @@ fn looked_object(line: &Line, was: Option<Gfid>) -> Option<Gfid>
 }
 
 /// The object at which a work, or its present heal, has last looked.
+#[tactic(auto, using(crate::proofs::ShownLemmas::object_step))]
 fn last_object(log: &[Line], a: ActorId, heal: bool) -> Option<Gfid>
     ensures { result ≡ last_object (in_work heal (work a.0 (reverse log.now))) }
 {
@@ -74,6 +79,7 @@ fn last_object(log: &[Line], a: ActorId, heal: bool) -> Option<Gfid>
 }
 
 /// What its last looks at an object show.
+#[tactic(auto, using(crate::proofs::ShownLemmas::looked_step))]
 fn looked_by(log: &[Line], a: ActorId, heal: bool, g: Gfid) -> Looked
     requires { AreKnown (reverse log.now) }
     ensures { result ≡ looked_by g (in_work heal (work a.0 (reverse log.now))) }
@@ -187,6 +193,7 @@ fn last_list(log: &[Line], a: ActorId) -> Option<u32>
 }
 
 /// The names that the last list of an actor showed.
+#[tactic(auto, using(crate::proofs::ShownLemmas::listed_some, crate::proofs::ShownLemmas::listed_none))]
 fn last_listed(
     alloc: Global,
     tally: &Tally,
@@ -246,5 +253,65 @@ pub fn shown_by(
     match line {
         TraceLine::Event { .. } => Ok(Shown::Nothing),
         TraceLine::Of { actor, doing } => done_shown(alloc, tally, plan, log, *actor, doing),
+    }
+}
+
+fn done_shown(
+    alloc: Global,
+    tally: &Tally,
+    plan: &Plan,
+    log: &[Line],
+    a: ActorId,
+    doing: &Doing,
+) -> Result<Shown, NoMemory>
+    requires tally { IsTally plan.now (reverse log.now) tally.now }
+    requires brick { AsksFive (TraceLine.Of a doing.now) }
+    requires few { length log.now < 2147483648 }
+    ensures { IfOk result (λ shown. shown ≡ shown_by plan.now (reverse log.now) (TraceLine.Of a doing.now)) }
+{
+    match doing {
+        Doing::Ask {
+            brick,
+            asked,
+            answered,
+        } => Ok(ask_shown(tally, plan, log, *brick, asked, *answered)),
+        Doing::HealEnd { healed, .. } => Ok(healed_shown(tally, plan, log, a, *healed)),
+        Doing::End { reply } => end_shown(alloc, tally, plan, log, a, *reply),
+        Doing::HealBegin { .. } => Ok(Shown::Nothing),
+        Doing::Begin { .. } => Ok(Shown::Nothing),
+    }
+}
+
+fn healed_shown(tally: &Tally, plan: &Plan, log: &[Line], a: ActorId, healed: Healed) -> Shown
+    requires tally { IsTally plan.now (reverse log.now) tally.now }
+    ensures { (kind : Kind) (g : Gfid) → result ≡ shown_by plan.now (reverse log.now) (TraceLine.Of a (Doing.HealEnd kind g healed)) }
+{
+    let _tally = tally;
+    let _plan = plan;
+    match healed {
+        Healed::Split => Shown::Views(last_views(log, a, true)),
+        _ => Shown::Nothing,
+    }
+}
+
+fn end_shown(
+    alloc: Global,
+    tally: &Tally,
+    plan: &Plan,
+    log: &[Line],
+    a: ActorId,
+    reply: SpelledReply,
+) -> Result<Shown, NoMemory>
+    requires tally { IsTally plan.now (reverse log.now) tally.now }
+    requires few { length log.now < 2147483648 }
+    ensures { IfOk result (λ shown. shown ≡ shown_by plan.now (reverse log.now) (TraceLine.Of a (Doing.End reply))) }
+{
+    match reply {
+        SpelledReply::Ok => {
+            let names = last_listed(alloc, tally, plan, log, a)?;
+            Ok(Shown::Names(names))
+        }
+        SpelledReply::SplitBrain => Ok(Shown::Views(last_views(log, a, false))),
+        _ => Ok(Shown::Nothing),
     }
 }

@@ -7,12 +7,12 @@ ghost use Rattle.afr_model.specs.Honest.{lock_answer};
 ghost use Rattle.afr_model.specs.Sums.{has_object};
 ghost use Rattle.afr_object.specs.Repairs.{repaired};
 ghost use Rattle.afr_object.specs.Tables.{object_of};
-ghost use Rattle.afr_trace_build.specs.Shown.{all_sums_of, sums_of, view_shown};
+ghost use Rattle.afr_trace_build.specs.Shown.{all_sums_of, empty_view, view_shown};
 ghost use Rattle.afr_trace_check.specs.Honest.{look_told, told_by_sums};
 ghost use Rattle.afr_trace_tally.specs.Tally.{IsTally};
 
-use afr_base::{ActorId, AllMarks, BrickId, Gfid, Kind};
-use afr_lines::{Area, Domain, Line, Request, Told};
+use afr_base::{ActorId, AllMarks, BrickId, Gfid, Kind, What};
+use afr_lines::{Line, Request, Told};
 use afr_object::{Change, Repair, View};
 use afr_plan::Plan;
 use afr_trace_tally::Tally;
@@ -94,19 +94,50 @@ fn all_marks(tally: &Tally, plan: &Plan, log: &[Line], b: BrickId, g: Gfid) -> A
     }
 }
 
+/// What a look at an object that the brick has shows.
+pub(crate) fn view_shown(
+    tally: &Tally,
+    plan: &Plan,
+    log: &[Line],
+    b: BrickId,
+    g: Gfid,
+) -> View
+    requires tally { IsTally plan.now (reverse log.now) tally.now }
+    requires brick { b.0 < 5 }
+    requires few { length log.now < 2147483648 }
+    ensures { result ≡ view_shown plan.now (reverse log.now) b.0 g }
+{
+    match tally.look(plan, log, b, g) {
+        Some(view) => View {
+            what: view.what,
+            len: view.len,
+            marks: all_marks(tally, plan, log, b, g),
+        },
+        None => empty_view(),
+    }
+}
+
+/// The view of an empty file, whose numbers are all 0.
+fn empty_view() -> View
+    ensures { result ≡ empty_view }
+{
+    View {
+        what: What::File,
+        len: 0,
+        marks: AllMarks::zero(),
+    }
+}
+
 fn look_told(tally: &Tally, plan: &Plan, log: &[Line], b: BrickId, g: Gfid) -> Told
     requires tally { IsTally plan.now (reverse log.now) tally.now }
     requires brick { b.0 < 5 }
     requires few { length log.now < 2147483648 }
     ensures { result ≡ look_told plan.now (reverse log.now) b.0 g }
 {
-    match tally.look(plan, log, b, g) {
-        Some(view) => Told::Seen(View {
-            what: view.what,
-            len: view.len,
-            marks: all_marks(tally, plan, log, b, g),
-        }),
-        None => Told::NoObject,
+    if tally.has_object(plan, log, b, g) {
+        Told::Seen(view_shown(tally, plan, log, b, g))
+    } else {
+        Told::NoObject
     }
 }
 
