@@ -1,2 +1,3 @@
+pub mod BlamingLemmas
 pub mod ShownLemmas
 pub mod ToldLemmas

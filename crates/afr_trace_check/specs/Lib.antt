@@ -1,3 +1,4 @@
 pub mod Works
 pub mod Honest
+pub mod Blaming
 pub mod Right

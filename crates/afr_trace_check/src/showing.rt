@@ -80,7 +80,7 @@ fn last_object(log: &[Line], a: ActorId, heal: bool) -> Option<Gfid>
 
 /// What its last looks at an object show.
 #[tactic(auto, using(crate::proofs::ShownLemmas::looked_step))]
-fn looked_by(log: &[Line], a: ActorId, heal: bool, g: Gfid) -> Looked
+pub(crate) fn looked_by(log: &[Line], a: ActorId, heal: bool, g: Gfid) -> Looked
     requires { AreKnown (reverse log.now) }
     ensures { result ≡ looked_by g (in_work heal (work a.0 (reverse log.now))) }
 {

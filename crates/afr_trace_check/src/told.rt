@@ -194,7 +194,7 @@ fn apply_told(
 }
 
 /// The object that a change is of: for a name, its directory.
-fn object_of(change: &Change) -> Gfid
+pub(crate) fn object_of(change: &Change) -> Gfid
     ensures { result ≡ object_of change.now }
 {
     match change {

@@ -1,0 +1,88 @@
+-- The test of a post-op passes exactly where it blames with a cause.
+use Rattle.std.proofs.Common.{◌≡◌, ◌↔◌, ◌∙◌, ℕ, ◌==◌, ◌&&◌, ◌||◌, not, Bool, true, false, List, [], ◌∷◌, Option, Some, None, refl, sym, ap, arith, subst, if◌then◌else◌}
+use Rattle.std.proofs.lemmas.Bool.{eqb-true}
+use Rattle.std.proofs.lemmas.Bool.Decides.{nat_tests}
+use Rattle.afr_base.specs.Bricks.{IsIn, and_left, and_right, below, is_nothing, member, minus, same, same_is}
+use Rattle.afr_base.specs.Kinds.{same_kind}
+use Rattle.afr_base.specs.SetLemmas.{no_member, member_minus, none_left, same_self}
+use Rattle.afr_base.specs.declared.ids.Gfid.{Gfid}
+use Rattle.afr_base.specs.declared.ids.Kind.{Kind}
+use Rattle.afr_base.specs.declared.ids.Kind.TheVariants.{Bytes, Attrs, Names}
+use Rattle.afr_lines.specs.Areas.{kind_for}
+use Rattle.afr_lines.specs.Work.{Work}
+use Rattle.afr_lines.specs.declared.line.Line.{Line}
+use Rattle.afr_model.specs.Blamed.{IsBlaming, missing}
+use Rattle.afr_model.specs.Showing.{among, applied_at, begun_by, has, looked_by, posting}
+use Rattle.afr_model.specs.Standing.{change_by, locks_any, since, suffices}
+use Rattle.afr_model_moves.proofs.Tests.{same_kind_self, same_kind_yes}
+use Rattle.afr_object.specs.Tables.{object_of}
+use Rattle.afr_object.specs.declared.change.Change.{Change}
+use Rattle.afr_plan.specs.declared.plan.Plan.{Plan}
+use Rattle.afr_trace_check.specs.Blaming.{is_blaming, is_change_of, is_position}
+
+gfid_same : (g h : Gfid) → g.0 ≡ h.0 → g ≡ h
+gfid_same g h e = ap (λ (n : ℕ). record { 0 = n }) e
+
+-- nothing is left of a set within another
+within_left : (s t : List ℕ) → IsIn s t → is_nothing (minus s t) ≡ true
+within_left s t h = no_member (minus s t) (λ b m. in_both b (rw (member_minus s t b) at m))
+  where
+    in_both : (b : ℕ) → (not (member t b) && member s b) ≡ true → ⊥
+    in_both b m =
+        let out : not (member t b) ≡ true = and_left (not (member t b)) (member s b) m in
+        let inside : member t b ≡ true = h b (and_right (not (member t b)) (member s b) m) in
+        let no : not true ≡ true = rw inside at out in
+        absurd (cc no)
+
+not_true : (b : Bool) → not b ≡ true → b ≡ false
+not_true true h = absurd (cc h)
+not_true false h = refl
+
+module _ (p : Plan) (attempt : ℕ) (g : Gfid) (kind : Kind) (missed : List ℕ) (b : ℕ) (w : Work) where
+  by_change : (at : Option ℕ) (o : Option Change) → begun_by w ≡ at → change_by w ≡ o → is_position at attempt ≡ true → is_change_of o g kind ≡ true → not (member (among posting w) b) ≡ true
+      → member (among applied_at w) b ≡ true → suffices p.shape kind (looked_by g w) (among applied_at w) ≡ true → same missed (minus (below p.shape.n) (among applied_at w)) ≡ true
+      → is_nothing (minus missed (among (missing g) (since locks_any w))) ≡ true → IsBlaming p attempt g kind missed b w
+  by_change (Some k) (Some change) hat ho position of_it once did enough others why = record {
+    change = change;
+    begun = hat ∙ ap Some (eqb-true k attempt position);
+    is_change = ho;
+    object = gfid_same g (object_of change) (eqb-true g.0 (object_of change).0 (and_left (g.0 == (object_of change).0) (same_kind kind (kind_for change)) of_it));
+    counted = same_kind_yes kind (kind_for change) (and_right (g.0 == (object_of change).0) (same_kind kind (kind_for change)) of_it);
+    once = not_true (member (among posting w) b) once;
+    did = did;
+    enough = enough;
+    others = same_is missed (minus (below p.shape.n) (among applied_at w)) others;
+    why = none_left missed (among (missing g) (since locks_any w)) why;
+  }
+  by_change None o hat ho position of_it once did enough others why = absurd (cc position)
+  by_change (Some k) None hat ho position of_it once did enough others why = absurd (cc of_it)
+
+  blames : is_blaming p attempt g kind missed b w ≡ true → IsBlaming p attempt g kind missed b w
+  blames h =
+      let h6 = and_left _ _ h in
+      let h5 = and_left _ _ h6 in
+      let h4 = and_left _ _ h5 in
+      let h3 = and_left _ _ h4 in
+      let h2 = and_left _ _ h3 in
+      by_change (begun_by w) (change_by w) refl refl (and_left _ _ h2) (and_right _ _ h2) (and_right _ _ h3) (and_right _ _ h4) (and_right _ _ h5) (and_right _ _ h6) (and_right _ _ h)
+
+  passes : IsBlaming p attempt g kind missed b w → is_blaming p attempt g kind missed b w ≡ true
+  passes s =
+      let here : (attempt == attempt) ≡ true = grind (arith, nat_tests) in
+      let object : (g.0 == (object_of s.change).0) ≡ true = rw (← s.object) (let same : (g.0 == g.0) ≡ true = grind (arith, nat_tests) in same) in
+      let counted : same_kind kind (kind_for s.change) ≡ true = rw (← s.counted) (same_kind_self kind) in
+      let others : same missed (minus (below p.shape.n) (among applied_at w)) ≡ true = rw (← s.others) (same_self missed) in
+      rw (s.begun, s.is_change, here, object, counted, s.once, s.did, s.enough, others, within_left missed (among (missing g) (since locks_any w)) s.why) refl
+
+  pub blaming_is : (is_blaming p attempt g kind missed b w ≡ true) ↔ IsBlaming p attempt g kind missed b w
+  blaming_is = (blames, passes)
+
+-- ---- since the first lock
+pub since_none : (w : Work) → has locks_any w ≡ false → since locks_any w ≡ []
+since_none [] h = refl
+since_none (x ∷ w) h = by (locks_any x.0) (has locks_any w) h
+  where
+    by : (here later : Bool) → (here || later) ≡ false → (if later then x ∷ since locks_any w else (if here then x ∷ [] else [])) ≡ []
+    by false false e = refl
+    by true later e = absurd (cc e)
+    by false true e = absurd (cc e)
