@@ -1,3 +1,4 @@
 pub mod BlamingLemmas
+pub mod FillingLemmas
 pub mod ShownLemmas
 pub mod ToldLemmas

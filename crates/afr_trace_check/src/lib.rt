@@ -2,12 +2,14 @@
 #![tactic(auto)]
 
 mod blamed;
+mod filling;
 mod finding;
 mod honest;
 mod showing;
 mod told;
 
 pub use blamed::is_blamed;
+pub use filling::filled;
 pub use finding::{Finding, Rule};
 pub use honest::is_honest;
 pub use showing::shown_by;
