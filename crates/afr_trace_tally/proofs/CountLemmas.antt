@@ -1,5 +1,5 @@
 -- What is counted of a log, one line more.
-use Rattle.std.proofs.Common.{◌≡◌, ℕ, zero, suc, ◌+◌, ◌*◌, ◌<◌, ◌≤◌, ◌==◌, ◌&&◌, Bool, true, false, List, [], ◌∷◌, Option, Some, None, length, refl, sym, ap, ◌∙◌, subst, arith, cond, if◌then◌else◌}
+use Rattle.std.proofs.Common.{◌≡◌, ℕ, zero, suc, ◌+◌, ◌*◌, ◌^◌, ◌<◌, ◌≤◌, ◌==◌, ◌&&◌, Bool, true, false, List, [], ◌∷◌, Option, Some, None, length, refl, sym, ap, ◌∙◌, subst, arith, cond, if◌then◌else◌}
 use Rattle.std.proofs.lemmas.Bool.Decides.{nat_tests}
 use Rattle.std.proofs.lemmas.Bool.{eqb-true}
 use Rattle.std.specs.Prelude.{slice_index}
@@ -198,12 +198,25 @@ small_either : (b : Bool) (n : ℕ) (d c : Count) → IsOne d → IsSmall n c �
 small_either true n d c o s = small_plus n d c o s
 small_either false n d c o s = small_more n c s
 
+zero_small : (m b : ℕ) → b < 5 → slice_index (five (λ b. 0)) b ≤ m
+zero_small m b l = rw (five_at (λ b. 0) b l) (omega arith)
+
+-- what one request counts
+pub one_pre : IsOne (record no_count { opened = 1 })
+one_pre = record { opened = omega arith; closed = omega arith; blamed = zero_small 1; settled = zero_small (1 * 2 ^ 32) }
+
+pub one_post : (blamed : List ℕ) → ((b : ℕ) → b < 5 → slice_index blamed b ≤ 1) → IsOne (record no_count { closed = 1; blamed = blamed })
+one_post blamed h = record { opened = omega arith; closed = omega arith; blamed = h; settled = zero_small (1 * 2 ^ 32) }
+
+pub one_settle : (closed : ℕ) (settled : List ℕ) → closed ≤ 4294967296 → ((b : ℕ) → b < 5 → slice_index settled b ≤ 4294967296) → IsOne (record no_count { closed = closed; settled = settled })
+one_settle closed settled hc hs = record { opened = omega arith; closed = omega (arith, hc); blamed = zero_small 1; settled = λ b l. omega (arith, hs b l) }
+
 -- nothing was counted at first
 pub none_counted : (p : Plan) (x : ℕ) (counts : Counts) → ((kind : Kind) → counts_for kind counts ≡ []) → AreCounted p [] x counts
 none_counted p x counts none = record { sums = λ g kind. rw (none kind) refl; small = λ g kind. rw (none kind) nothing }
   where
     nothing : IsSmall 0 no_count
-    nothing = record { opened = omega arith; closed = omega arith; blamed = λ b l. rw (five_at (λ b. 0) b l) (omega arith); settled = λ b l. rw (five_at (λ b. 0) b l) (omega arith) }
+    nothing = record { opened = omega arith; closed = omega arith; blamed = zero_small 0; settled = zero_small (0 * 2 ^ 32) }
 
 -- a line that counts nothing here leaves what is kept
 pub counted_same : (p : Plan) (line : Line) (older : List Line) (x : ℕ) (counts : Counts) → ((g : Gfid) (kind : Kind) → count_here (counted_by x line) g kind (has_object p older g x) ≡ no_count)

@@ -107,6 +107,12 @@ fn ended_after(a: ActorId, line: &Line, ended: u32) -> u32
     if ends_work(a, line) { ended + 1 } else { ended }
 }
 
+fn killed_after(a: ActorId, line: &Line, killed: bool) -> bool
+    ensures { result ≡ (kills a.0 line.now || killed) }
+{
+    kills(a, line) || killed
+}
+
 /// The actor after one more line, by the bricks that were started before it.
 pub(crate) fn next_actor(
     a: ActorId,
@@ -120,7 +126,7 @@ pub(crate) fn next_actor(
     ActorTally {
         place: place_after(a, line, was.place),
         ended: ended_after(a, line, was.ended),
-        killed: kills(a, line) || was.killed,
+        killed: killed_after(a, line, was.killed),
         linked: linked_flags(&was.linked, a, line),
         joined: joined_flags(a, line, started, was),
     }

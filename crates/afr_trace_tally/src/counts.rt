@@ -57,6 +57,7 @@ fn one_if(flag: bool) -> u64
     if flag { 1 } else { 0 }
 }
 
+#[tactic(auto, using(crate::proofs::CountLemmas::one_pre))]
 fn pre_counts() -> Count
     ensures value { result ≡ record no_count { opened = 1 } }
     ensures small { IsOne result }
@@ -66,35 +67,58 @@ fn pre_counts() -> Count
     count
 }
 
+#[tactic(auto, using(crate::proofs::CountLemmas::one_post))]
 fn post_counts(missed: BrickSet) -> Count
     ensures value { result ≡ record no_count { closed = 1; blamed = five (λ b. if member missed b then 1 else 0) } }
     ensures small { IsOne result }
 {
     let mut count = no_count();
     count.closed = 1;
-    count.blamed = [
+    count.blamed = all_missed(missed);
+    count
+}
+
+fn wide(n: u32) -> u64
+    ensures value { result ≡ n }
+    ensures small { result ≤ 4294967296 }
+{
+    u64::from(n)
+}
+
+fn all_wide(numbers: &[u32; 5]) -> [u64; 5]
+    ensures value { result ≡ five (λ b. slice_index numbers.now b) }
+    ensures small { (b : ℕ) → b < 5 → slice_index result b ≤ 4294967296 }
+{
+    [
+        wide(numbers[0]),
+        wide(numbers[1]),
+        wide(numbers[2]),
+        wide(numbers[3]),
+        wide(numbers[4]),
+    ]
+}
+
+fn all_missed(missed: BrickSet) -> [u64; 5]
+    ensures value { result ≡ five (λ b. if member missed b then 1 else 0) }
+    ensures small { (b : ℕ) → b < 5 → slice_index result b ≤ 1 }
+{
+    [
         one_if(missed.has(BrickId(0))),
         one_if(missed.has(BrickId(1))),
         one_if(missed.has(BrickId(2))),
         one_if(missed.has(BrickId(3))),
         one_if(missed.has(BrickId(4))),
-    ];
-    count
+    ]
 }
 
+#[tactic(auto, using(crate::proofs::CountLemmas::one_settle))]
 fn settle_counts(less: &Marks) -> Count
     ensures value { result ≡ record no_count { closed = less.now.dirty; settled = five (λ b. slice_index less.now.pending b) } }
     ensures small { IsOne result }
 {
     let mut count = no_count();
-    count.closed = u64::from(less.dirty);
-    count.settled = [
-        u64::from(less.pending[0]),
-        u64::from(less.pending[1]),
-        u64::from(less.pending[2]),
-        u64::from(less.pending[3]),
-        u64::from(less.pending[4]),
-    ];
+    count.closed = wide(less.dirty);
+    count.settled = all_wide(&less.pending);
     count
 }
 

@@ -1,5 +1,5 @@
 //! What one line does to bricks, links and sessions.
-ghost use Rattle.std.specs.Prelude.{◌≡◌, ◌&&◌, ◌||◌, not, List, ℕ};
+ghost use Rattle.std.specs.Prelude.{◌≡◌, ◌&&◌, ◌||◌, not, Bool, List, ℕ};
 ghost use Rattle.afr_base.specs.Bricks.{member};
 ghost use Rattle.afr_lines.specs.Places.{is_heal_lock, next_place, opens};
 ghost use Rattle.afr_lines.specs.Work.{is_of};

@@ -1,5 +1,5 @@
 //! All that is kept of a log, one line more at a time.
-ghost use Rattle.std.specs.Prelude.{Err, true, ◌≡◌, ◌↔◌, ◌+◌, ◌-◌, ◌<◌, ◌≤◌, ◌^◌, [], ◌∷◌, length, reverse, IfOk, OnOk, if◌then◌else◌};
+ghost use Rattle.std.specs.Prelude.{Err, true, ◌≡◌, ◌↔◌, ◌+◌, ◌-◌, ◌<◌, ◌≤◌, ◌^◌, [], ◌∷◌, ◌++◌, length, reverse, IfOk, OnOk, if◌then◌else◌};
 ghost use Rattle.afr_lines.specs.Work.{is_event};
 ghost use Rattle.afr_base.specs.Bricks.{member};
 ghost use Rattle.afr_model.specs.Report.{started_bricks};
@@ -110,6 +110,13 @@ fn shown_now(
     }
 }
 
+fn keep(shown: &mut Vec<Kept>, more: Kept) -> Result<(), NoMemory>
+    ensures ok { OnOk result (shown.new.items ≡ shown.old.items ++ more ∷ []) }
+{
+    shown.push(more)?;
+    Ok(())
+}
+
 fn events_after(line: &Line, events: u32) -> u32
     requires { events < 2 ^ 32 - 1 }
     ensures { result ≡ (if is_event line.now then events + 1 else events) }
@@ -150,7 +157,7 @@ impl Tally {
     {
         let kept = carried_for(alloc, self.shown.as_slice(), line)?;
         let shown = shown_now(alloc, self.bricks.as_slice(), plan, line, older)?;
-        self.shown.push(shown)?;
+        keep(&mut self.shown, shown)?;
         add_to_bricks(&mut self.bricks, plan, line, older, &kept)?;
         add_to_actors(&mut self.actors, plan, line, older, &self.started);
         self.started = next_started(line, &self.started);
