@@ -1,15 +1,14 @@
 //! Whether a post-op accuses only those that missed its operation.
-ghost use Rattle.std.specs.Prelude.{◌≡◌, ◌↔◌, ◌<◌, ◌≤◌, ◌||◌, [], true, false, length, reverse, if◌then◌else◌, not, ◌&&◌};
+ghost use Rattle.std.specs.Prelude.{◌≡◌, ◌↔◌, ◌<◌, ◌≤◌, true, List, length, reverse};
 ghost use Rattle.std.specs.Option.{option_copied};
-ghost use Rattle.afr_base.specs.Bricks.{added_if, below, is_nothing, member, minus, same};
 ghost use Rattle.afr_base.specs.Kinds.{same_kind};
 ghost use Rattle.afr_lines.specs.Areas.{kind_for};
 ghost use Rattle.afr_lines.specs.Log.{change_of};
 ghost use Rattle.afr_lines.specs.Work.{work};
+ghost use Rattle.afr_lines.specs.declared.line.Line.{Line};
 ghost use Rattle.afr_model.specs.Blamed.{Blames, misses, missing};
-ghost use Rattle.afr_model.specs.Showing.{among, applied_at, begun_by, has, is_done, is_fault, looked_by, posting};
-ghost use Rattle.afr_model.specs.Standing.{change_by, locks_any, since, suffices};
-ghost use Rattle.afr_object.specs.Tables.{object_of};
+ghost use Rattle.afr_model.specs.Showing.{among, applied_at, begun_after, begun_by, is_done, is_fault, posting};
+ghost use Rattle.afr_model.specs.Standing.{change_after, change_by, locks_any, since, suffices};
 ghost use Rattle.afr_trace_check.specs.Blaming.{is_blaming, is_change_of, is_position};
 ghost use Rattle.afr_trace_tally.specs.Tally.{AreKnown, AsksKnown};
 

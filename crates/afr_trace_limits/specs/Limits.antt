@@ -1,5 +1,5 @@
 -- Which plans are past the limit of a check.
-use Rattle.std.specs.Prelude.{ℕ, ◌+◌, nat_lt, Bool, false, List, length}
+use Rattle.std.specs.Prelude.{◌+◌, nat_lt, Bool, false, List, length}
 use Rattle.std.specs.List.{list_any}
 use Rattle.afr_plan.specs.declared.command.Command.{Command}
 use Rattle.afr_plan.specs.declared.command.Command.TheVariants.{Cut, Write}
