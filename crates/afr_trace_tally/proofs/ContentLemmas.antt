@@ -74,18 +74,13 @@ shown_past : (p : Plan) (log : List Line) (k : ℕ) → or_nothing (from_oldest 
 shown_past p [] k = refl
 shown_past p (line ∷ older) k = by_place (k == length older) refl
   where
-    here : ℕ → Table
-    here b = (plain_tables p older).now b
-
-    past : Bool → ℕ → ℕ → Table
-    past t j b = if t then here b else (plain_tables p older).past j b
-
-    at : (t : Bool) → or_nothing (if t then Some (shown_at here line) else from_oldest k (all_shown p older)) ≡ shown_by (λ j b. past t j b) k (if t then Some line else from_oldest k older)
-    at true = refl
-    at false = shown_past p older k
+    split : (t : Bool) → or_nothing (if t then Some (shown_at (plain_tables p older).now line) else from_oldest k (all_shown p older))
+        ≡ shown_by (λ j b. if t then (plain_tables p older).now b else (plain_tables p older).past j b) k (if t then Some line else from_oldest k older)
+    split true = refl
+    split false = shown_past p older k
 
     by_place : (t : Bool) → (k == length older) ≡ t → or_nothing (from_oldest k (all_shown p (line ∷ older))) ≡ shown_by (plain_tables p (line ∷ older)).past k (from_oldest k (line ∷ older))
-    by_place t e = rw (length_shown p older, e) (at t)
+    by_place t e = rw (length_shown p older, e) (split t)
 
 -- what was kept at a position is what the line there showed
 kept_is : (p : Plan) (log : List Line) (kept : List Contents) → reverse kept ≡ all_shown p log → (k : ℕ) → kept_at k kept ≡ shown_by (plain_tables p log).past k (from_oldest k log)
