@@ -34,6 +34,17 @@ within_left s t h = no_member (minus s t) (λ b m. in_both b (rw (member_minus s
         let no : not true ≡ true = rw inside at out in
         absurd (cc no)
 
+-- each of seven tests passes where all do
+all_seven : (a b c d e f g : Bool) → (a && b && c && d && e && f && g) ≡ true → (a ≡ true) × (b ≡ true) × (c ≡ true) × (d ≡ true) × (e ≡ true) × (f ≡ true) × (g ≡ true)
+all_seven true true true true true true true h = (refl, refl, refl, refl, refl, refl, refl)
+all_seven true true true true true true false h = absurd (cc)
+all_seven true true true true true false g h = absurd (cc)
+all_seven true true true true false f g h = absurd (cc)
+all_seven true true true false e f g h = absurd (cc)
+all_seven true true false d e f g h = absurd (cc)
+all_seven true false c d e f g h = absurd (cc)
+all_seven false b c d e f g h = absurd (cc)
+
 not_true : (b : Bool) → not b ≡ true → b ≡ false
 not_true true h = absurd (cc h)
 not_true false h = refl
@@ -59,12 +70,10 @@ module _ (p : Plan) (attempt : ℕ) (g : Gfid) (kind : Kind) (missed : List ℕ)
 
   blames : is_blaming p attempt g kind missed b w ≡ true → IsBlaming p attempt g kind missed b w
   blames h =
-      let h6 = and_left _ _ h in
-      let h5 = and_left _ _ h6 in
-      let h4 = and_left _ _ h5 in
-      let h3 = and_left _ _ h4 in
-      let h2 = and_left _ _ h3 in
-      by_change (begun_by w) (change_by w) refl refl (and_left _ _ h2) (and_right _ _ h2) (and_right _ _ h3) (and_right _ _ h4) (and_right _ _ h5) (and_right _ _ h6) (and_right _ _ h)
+      let t =
+          all_seven (is_position (begun_by w) attempt) (is_change_of (change_by w) g kind) (not (member (among posting w) b)) (member (among applied_at w) b) (suffices p.shape kind (looked_by g w) (among applied_at w))
+          (same missed (minus (below p.shape.n) (among applied_at w))) (is_nothing (minus missed (among (missing g) (since locks_any w)))) h in
+      by_change (begun_by w) (change_by w) refl refl t.0 t.1 t.2 t.3 t.4 t.5 t.6
 
   passes : IsBlaming p attempt g kind missed b w → is_blaming p attempt g kind missed b w ≡ true
   passes s =
@@ -77,12 +86,16 @@ module _ (p : Plan) (attempt : ℕ) (g : Gfid) (kind : Kind) (missed : List ℕ)
   pub blaming_is : (is_blaming p attempt g kind missed b w ≡ true) ↔ IsBlaming p attempt g kind missed b w
   blaming_is = (blames, passes)
 
--- ---- since the first lock
-pub since_none : (w : Work) → has locks_any w ≡ false → since locks_any w ≡ []
-since_none [] h = refl
-since_none (x ∷ w) h = by (locks_any x.0) (has locks_any w) h
+-- a test that tells whether two sets are the same
+pub same_by : (s t : List ℕ) (b : Bool) → ((b ≡ true) ↔ (s ≡ t)) → b ≡ same s t
+same_by s t b e = by b (same s t) refl refl
   where
-    by : (here later : Bool) → (here || later) ≡ false → (if later then x ∷ since locks_any w else (if here then x ∷ [] else [])) ≡ []
-    by false false e = refl
-    by true later e = absurd (cc e)
-    by false true e = absurd (cc e)
+    by : (u v : Bool) → b ≡ u → same s t ≡ v → b ≡ same s t
+    by true true hb hs = hb ∙ sym hs
+    by false false hb hs = hb ∙ sym hs
+    by true false hb hs =
+        let yes : same s t ≡ true = ap (λ (x : List ℕ). same s x) (sym (e.0 hb)) ∙ same_self s in
+        absurd (cc)
+    by false true hb hs =
+        let yes : b ≡ true = e.1 (same_is s t hs) in
+        absurd (cc)

@@ -2,3 +2,5 @@ pub mod BlamingLemmas
 pub mod FillingLemmas
 pub mod ShownLemmas
 pub mod ToldLemmas
+pub mod ViewLemmas
+pub mod WorkLemmas

@@ -1,10 +1,12 @@
 //! Whether a post-op accuses only those that missed its operation.
-ghost use Rattle.std.specs.Prelude.{◌≡◌, ◌↔◌, ◌<◌, ◌≤◌, true, List, length, reverse};
+ghost use Rattle.std.specs.Prelude.{◌≡◌, ◌↔◌, ◌||◌, ◌<◌, ◌≤◌, Bool, true, false, None, List, [], length, reverse, if◌then◌else◌};
 ghost use Rattle.std.specs.Option.{option_copied};
+ghost use Rattle.afr_base.specs.Bricks.{same};
 ghost use Rattle.afr_base.specs.Kinds.{same_kind};
 ghost use Rattle.afr_lines.specs.Areas.{kind_for};
 ghost use Rattle.afr_lines.specs.Log.{change_of};
-ghost use Rattle.afr_lines.specs.Work.{work};
+ghost use Rattle.afr_lines.specs.Work.{is_end, is_of, work};
+ghost use Rattle.afr_lines.specs.declared.answer.Told.{Told};
 ghost use Rattle.afr_lines.specs.declared.line.Line.{Line};
 ghost use Rattle.afr_model.specs.Blamed.{Blames, misses, missing};
 ghost use Rattle.afr_model.specs.Showing.{among, applied_at, begun_after, begun_by, is_done, is_fault, posting};
@@ -19,9 +21,24 @@ use afr_choice::{Looked, good};
 use afr_lines::{Domain, Line, Request, Told};
 use afr_object::Change;
 use afr_plan::Plan;
-use afr_trace_tally::{is_end, is_of};
+use afr_trace_tally::{change_of, is_end, is_of};
 
 // ---- the attempt
+
+/// The position of the last attempt, one line more.
+fn begun_more(a: ActorId, line: &Line, position: u32, was: Option<u32>) -> Option<u32>
+    ensures { (older : List Line) → position ≡ length older → result ≡ (if is_of a.0 line.now then (if is_end line.now then None else begun_after line.now older was) else was) }
+{
+    if is_of(a, line) {
+        if is_end(line) {
+            None
+        } else {
+            begun_after(line, position, was)
+        }
+    } else {
+        was
+    }
+}
 
 /// The position of the last attempt of the present work.
 fn begun_by(log: &[Line], a: ActorId) -> Option<u32>
@@ -30,14 +47,7 @@ fn begun_by(log: &[Line], a: ActorId) -> Option<u32>
 {
     let mut begun = None;
     for position in 0..log.len() {
-        let line = &log[position];
-        if is_of(a, line) {
-            begun = if is_end(line) {
-                None
-            } else {
-                begun_after(line, position as u32, begun)
-            };
-        }
+        begun = begun_more(a, &log[position], position as u32, begun);
     }
     begun
 }
@@ -51,12 +61,18 @@ fn begun_after(line: &Line, position: u32, was: Option<u32>) -> Option<u32>
     }
 }
 
-fn change_of(line: &Line) -> Option<&Change>
-    ensures { option_copied result ≡ change_of line.now }
+/// The change of the last attempt, one line more.
+fn change_more<'a>(a: ActorId, line: &'a Line, was: Option<&'a Change>) -> Option<&'a Change>
+    ensures { option_copied result ≡ (if is_of a.0 line.now then (if is_end line.now then None else change_after (change_of line.now) (option_copied was.entry)) else option_copied was.entry) }
 {
-    match line {
-        Line::Begin { change, .. } => Some(change),
-        _ => None,
+    if is_of(a, line) {
+        if is_end(line) {
+            None
+        } else {
+            change_after(change_of(line), was)
+        }
+    } else {
+        was
     }
 }
 
@@ -65,14 +81,8 @@ fn change_by(log: &[Line], a: ActorId) -> Option<&Change>
     ensures { option_copied result ≡ change_by (work a.0 (reverse log.now)) }
 {
     let mut found = None;
-    for line in log {
-        if is_of(a, line) {
-            found = if is_end(line) {
-                None
-            } else {
-                change_after(change_of(line), found)
-            };
-        }
+    for position in 0..log.len() {
+        found = change_more(a, &log[position], found);
     }
     found
 }
@@ -162,20 +172,30 @@ fn posting(bricks: BrickSet, line: &Line) -> BrickSet
     }
 }
 
+/// The bricks that were asked for the post-op, one line more.
+fn posting_more(a: ActorId, line: &Line, was: BrickSet) -> BrickSet
+    requires { AsksKnown line.now }
+    ensures { result ≡ (if is_of a.0 line.now then (if is_end line.now then [] else posting line.now was) else was) }
+{
+    if is_of(a, line) {
+        if is_end(line) {
+            BrickSet::none()
+        } else {
+            posting(was, line)
+        }
+    } else {
+        was
+    }
+}
+
 /// The bricks that were asked for the post-op of the present attempt.
 fn posting_by(log: &[Line], a: ActorId) -> BrickSet
     requires { AreKnown (reverse log.now) }
     ensures { result ≡ among posting (work a.0 (reverse log.now)) }
 {
     let mut bricks = BrickSet::none();
-    for line in log {
-        if is_of(a, line) {
-            bricks = if is_end(line) {
-                BrickSet::none()
-            } else {
-                posting(bricks, line)
-            };
-        }
+    for position in 0..log.len() {
+        bricks = posting_more(a, &log[position], bricks);
     }
     bricks
 }
@@ -196,20 +216,30 @@ fn applied(bricks: BrickSet, line: &Line) -> BrickSet
     }
 }
 
+/// The bricks that did the operation, one line more.
+fn applied_more(a: ActorId, line: &Line, was: BrickSet) -> BrickSet
+    requires { AsksKnown line.now }
+    ensures { result ≡ (if is_of a.0 line.now then (if is_end line.now then [] else applied_at line.now was) else was) }
+{
+    if is_of(a, line) {
+        if is_end(line) {
+            BrickSet::none()
+        } else {
+            applied(was, line)
+        }
+    } else {
+        was
+    }
+}
+
 /// The bricks that did the operation of the present attempt.
 fn applied_by(log: &[Line], a: ActorId) -> BrickSet
     requires { AreKnown (reverse log.now) }
     ensures { result ≡ among applied_at (work a.0 (reverse log.now)) }
 {
     let mut bricks = BrickSet::none();
-    for line in log {
-        if is_of(a, line) {
-            bricks = if is_end(line) {
-                BrickSet::none()
-            } else {
-                applied(bricks, line)
-            };
-        }
+    for position in 0..log.len() {
+        bricks = applied_more(a, &log[position], bricks);
     }
     bricks
 }
@@ -255,6 +285,33 @@ fn missing(bricks: BrickSet, g: Gfid, line: &Line) -> BrickSet
     }
 }
 
+/// Whether the work has asked for a lock, one line more.
+fn locked_more(a: ActorId, line: &Line, was: bool) -> bool
+    ensures { result ≡ (if is_of a.0 line.now then (if is_end line.now then false else locks_any line.now || was) else was) }
+{
+    if is_of(a, line) {
+        !is_end(line) && (locks_any(line) || was)
+    } else {
+        was
+    }
+}
+
+/// The bricks that missed something, one line more.
+fn missing_more(a: ActorId, g: Gfid, line: &Line, locked: bool, was: BrickSet) -> BrickSet
+    requires { AsksKnown line.now }
+    ensures { result ≡ (if is_of a.0 line.now then (if is_end line.now then [] else (if locks_any line.now || locked then missing g line.now was else [])) else was) }
+{
+    if is_of(a, line) {
+        if !is_end(line) && (locks_any(line) || locked) {
+            missing(was, g, line)
+        } else {
+            BrickSet::none()
+        }
+    } else {
+        was
+    }
+}
+
 /// The bricks that missed something that an operation on the object needs, since the work's first lock.
 fn missing_by(log: &[Line], a: ActorId, g: Gfid) -> BrickSet
     requires { AreKnown (reverse log.now) }
@@ -262,28 +319,31 @@ fn missing_by(log: &[Line], a: ActorId, g: Gfid) -> BrickSet
 {
     let mut locked = false;
     let mut bricks = BrickSet::none();
-    for line in log {
-        if is_of(a, line) {
-            locked = !is_end(line) && (locks_any(line) || locked);
-            bricks = if locked {
-                missing(bricks, g, line)
-            } else {
-                BrickSet::none()
-            };
-        }
+    for position in 0..log.len() {
+        bricks = missing_more(a, g, &log[position], locked, bricks);
+        locked = locked_more(a, &log[position], locked);
     }
     bricks
 }
 
 // ---- post-ops
 
-fn suffices(shape: &Shape, kind: Kind, looked: &Looked, bricks: BrickSet) -> bool
-    requires { shape.now.n ≤ 5 }
-    ensures { result ≡ suffices shape.now kind looked.now bricks }
+fn suffices(shape: Shape, kind: Kind, looked: &Looked, bricks: BrickSet) -> bool
+    requires { shape.n ≤ 5 }
+    ensures { result ≡ suffices shape kind looked.now bricks }
 {
-    bricks.has_quorum(shape.n) && !good(shape, looked, kind).common(bricks).is_empty()
+    bricks.has_quorum(shape.n) && !good(&shape, looked, kind).common(bricks).is_empty()
 }
 
+#[tactic(auto, using(crate::proofs::BlamingLemmas::same_by))]
+fn same(one: BrickSet, other: BrickSet) -> bool
+    ensures { result ≡ same one other }
+{
+    one == other
+}
+
+/// Whether a post-op is of its work's attempt and the first at its brick, is asked where the operation was done, which is at a majority
+/// with a good copy, and accuses exactly the other bricks, each with a cause.
 fn is_blaming(
     plan: &Plan,
     log: &[Line],
@@ -302,14 +362,45 @@ fn is_blaming(
 {
     let did = applied_by(log, a);
     let looked = looked_by(log, a, false, g);
-    let others = BrickSet::all(plan.shape.n).minus(did);
-    is_position(begun_by(log, a), attempt)
-        && is_change_of(change_by(log, a), g, kind)
-        && !posting_by(log, a).has(b)
-        && did.has(b)
-        && suffices(&plan.shape, kind, &looked, did)
-        && missed == others
-        && missed.minus(missing_by(log, a, g)).is_empty()
+    let begun = is_position(begun_by(log, a), attempt);
+    let of_it = is_change_of(change_by(log, a), g, kind);
+    let asked = posting_by(log, a).has(b);
+    let done = did.has(b);
+    let enough = suffices(plan.shape, kind, &looked, did);
+    let others = same(missed, BrickSet::all(plan.shape.n).minus(did));
+    let why = missed.minus(missing_by(log, a, g)).is_empty();
+    begun && of_it && !asked && done && enough && others && why
+}
+
+/// Whether a request, where it is a post-op, accuses with a cause.
+fn is_asked_blamed(plan: &Plan, log: &[Line], a: ActorId, b: BrickId, request: &Request) -> bool
+    requires shape { plan.now.shape.n ≤ 5 }
+    requires known { AreKnown (reverse log.now) }
+    requires few { length log.now < 2147483648 }
+    requires brick { b.0 < 5 }
+    ensures { (told : Told) (took : Bool) → (result ≡ true) ↔ Blames plan.now (Line.Ask a b request.now told took) (reverse log.now) }
+{
+    match request {
+        Request::Post {
+            attempt,
+            gfid,
+            kind,
+            missed,
+        } => is_blaming(plan, log, a, b, *attempt, *gfid, *kind, *missed),
+        Request::Lock { .. } => true,
+        Request::Unlock { .. } => true,
+        Request::Look { .. } => true,
+        Request::ReadBytes { .. } => true,
+        Request::ReadName { .. } => true,
+        Request::List { .. } => true,
+        Request::ReadAttr { .. } => true,
+        Request::ReadAttrs { .. } => true,
+        Request::Index => true,
+        Request::Pre { .. } => true,
+        Request::Apply { .. } => true,
+        Request::Mend { .. } => true,
+        Request::Settle { .. } => true,
+    }
 }
 
 /// Whether a line, where it is a post-op, accuses exactly the bricks that didn't do its operation, each of which missed something that
@@ -325,14 +416,13 @@ pub fn is_blamed(plan: &Plan, log: &[Line], line: &Line) -> bool
         Line::Ask {
             actor,
             brick,
-            request: Request::Post {
-                attempt,
-                gfid,
-                kind,
-                missed,
-            },
+            request,
             ..
-        } => is_blaming(plan, log, *actor, *brick, *attempt, *gfid, *kind, *missed),
-        _ => true,
+        } => is_asked_blamed(plan, log, *actor, *brick, request),
+        Line::Begin { .. } => true,
+        Line::HealBegin { .. } => true,
+        Line::End { .. } => true,
+        Line::HealEnd { .. } => true,
+        Line::Event { .. } => true,
     }
 }

@@ -1,10 +1,12 @@
 //! What the lines before a line show of what its text leaves out, by their tally.
-ghost use Rattle.std.specs.Prelude.{◌≡◌, ◌<◌, Bool, reverse, length, IfOk};
+ghost use Rattle.std.specs.Prelude.{◌≡◌, ◌&&◌, ◌||◌, ◌<◌, Bool, List, None, Some, reverse, length, IfOk, if◌then◌else◌};
 ghost use Rattle.afr_base.specs.declared.ids.Gfid.{Gfid};
 ghost use Rattle.afr_base.specs.declared.ids.Kind.{Kind};
 ghost use Rattle.afr_base.specs.declared.ids.ActorId.{ActorId};
 ghost use Rattle.afr_lines.specs.Areas.{object_of_area};
-ghost use Rattle.afr_lines.specs.Work.{work};
+ghost use Rattle.afr_choice.specs.Looks.{no_looks};
+ghost use Rattle.afr_lines.specs.Work.{is_end, is_of, work};
+ghost use Rattle.afr_lines.specs.declared.line.Line.{Line};
 ghost use Rattle.afr_model.specs.Healing.{is_border};
 ghost use Rattle.afr_model.specs.Showing.{look_shows, looked_after, looked_by};
 ghost use Rattle.afr_trace_build.specs.Shown.{ask_shown, last_listed, last_object, last_views, looked_object, shown_by, view_shown};
@@ -60,39 +62,56 @@ fn looked_object(line: &Line, was: Option<Gfid>) -> Option<Gfid>
     }
 }
 
+/// The object that was last looked at, one line more.
+fn object_more(a: ActorId, heal: bool, line: &Line, was: Option<Gfid>) -> Option<Gfid>
+    ensures { result ≡ (if is_of a.0 line.now then (if is_end line.now || (heal && is_border line.now) then None else looked_object line.now was) else was) }
+{
+    if is_of(a, line) {
+        if is_end(line) || (heal && is_border(line)) {
+            None
+        } else {
+            looked_object(line, was)
+        }
+    } else {
+        was
+    }
+}
+
 /// The object at which a work, or its present heal, has last looked.
-#[tactic(auto, using(crate::proofs::ShownLemmas::object_step))]
 fn last_object(log: &[Line], a: ActorId, heal: bool) -> Option<Gfid>
     ensures { result ≡ last_object (in_work heal (work a.0 (reverse log.now))) }
 {
     let mut object = None;
-    for line in log {
-        if is_of(a, line) {
-            object = if is_end(line) || (heal && is_border(line)) {
-                None
-            } else {
-                looked_object(line, object)
-            };
-        }
+    for position in 0..log.len() {
+        object = object_more(a, heal, &log[position], object);
     }
     object
 }
 
+/// What the last looks at an object show, one line more.
+fn looked_more(a: ActorId, heal: bool, g: Gfid, line: &Line, was: Looked) -> Looked
+    requires { AsksKnown line.now }
+    ensures { result ≡ (if is_of a.0 line.now then (if is_end line.now || (heal && is_border line.now) then no_looks else looked_after g line.now was) else was) }
+{
+    if is_of(a, line) {
+        if is_end(line) || (heal && is_border(line)) {
+            Looked::none()
+        } else {
+            looked_after(was, g, line)
+        }
+    } else {
+        was
+    }
+}
+
 /// What its last looks at an object show.
-#[tactic(auto, using(crate::proofs::ShownLemmas::looked_step))]
 pub(crate) fn looked_by(log: &[Line], a: ActorId, heal: bool, g: Gfid) -> Looked
     requires { AreKnown (reverse log.now) }
     ensures { result ≡ looked_by g (in_work heal (work a.0 (reverse log.now))) }
 {
     let mut looked = Looked::none();
-    for line in log {
-        if is_of(a, line) {
-            looked = if is_end(line) || (heal && is_border(line)) {
-                Looked::none()
-            } else {
-                looked_after(looked, g, line)
-            };
-        }
+    for position in 0..log.len() {
+        looked = looked_more(a, heal, g, &log[position], looked);
     }
     looked
 }
@@ -178,6 +197,17 @@ fn lists(a: ActorId, line: &Line) -> bool
     }
 }
 
+/// The position of the last line that lists, one line more.
+fn list_more(a: ActorId, line: &Line, position: u32, was: Option<u32>) -> Option<u32>
+    ensures { (older : List Line) → position ≡ length older → result ≡ (if lists a.0 line.now then Some (length older) else was) }
+{
+    if lists(a, line) {
+        Some(position)
+    } else {
+        was
+    }
+}
+
 /// The position of the last line of an actor that lists.
 fn last_list(log: &[Line], a: ActorId) -> Option<u32>
     requires { length log.now < 2147483648 }
@@ -185,9 +215,7 @@ fn last_list(log: &[Line], a: ActorId) -> Option<u32>
 {
     let mut found = None;
     for position in 0..log.len() {
-        if lists(a, &log[position]) {
-            found = Some(position as u32);
-        }
+        found = list_more(a, &log[position], position as u32, found);
     }
     found
 }

@@ -1,12 +1,12 @@
 //! What a brick tells of a request that it carries out.
-ghost use Rattle.std.specs.Prelude.{◌≡◌, ◌↔◌, ◌<◌, ℕ, true, length, reverse, slice_get, if◌then◌else◌};
-ghost use Rattle.std.specs.Option.{option_copied};
-ghost use Rattle.afr_lines.specs.Log.{change_at, change_of, from_oldest};
+ghost use Rattle.std.specs.Prelude.{◌≡◌, ◌↔◌, ◌<◌, true, length, reverse};
 ghost use Rattle.afr_lines.specs.Told.{told_by};
-ghost use Rattle.afr_model.specs.Honest.{lock_answer};
-ghost use Rattle.afr_model.specs.Sums.{has_object};
+ghost use Rattle.afr_lines.specs.declared.answer.Answer.{Answer};
+ghost use Rattle.afr_model.specs.Honest.{copy_answer, lock_answer};
+ghost use Rattle.afr_model.specs.Tables.{holds};
+ghost use Rattle.afr_object.specs.Object.{Object};
 ghost use Rattle.afr_object.specs.Repairs.{repaired};
-ghost use Rattle.afr_object.specs.Tables.{object_of};
+ghost use Rattle.afr_object.specs.Tables.{copy_at, object_of};
 ghost use Rattle.afr_trace_build.specs.Shown.{all_sums_of, empty_view, view_shown};
 ghost use Rattle.afr_trace_check.specs.Honest.{look_told, told_by_sums};
 ghost use Rattle.afr_trace_tally.specs.Tally.{IsTally};
@@ -15,10 +15,9 @@ use afr_base::{ActorId, AllMarks, BrickId, Gfid, Kind, What};
 use afr_lines::{Line, Request, Told};
 use afr_object::{Change, Repair, View};
 use afr_plan::Plan;
-use afr_trace_tally::Tally;
+use afr_trace_tally::{Tally, change_at};
 
 /// What a request is told that the brick carries out.
-#[tactic(auto, using(crate::proofs::ToldLemmas::bytes_told, crate::proofs::ToldLemmas::name_told, crate::proofs::ToldLemmas::list_told, crate::proofs::ToldLemmas::attr_told, crate::proofs::ToldLemmas::attrs_told, crate::proofs::ToldLemmas::pre_told, crate::proofs::ToldLemmas::post_told, crate::proofs::ToldLemmas::mend_told, crate::proofs::ToldLemmas::settle_told))]
 pub(crate) fn told(
     tally: &Tally,
     plan: &Plan,
@@ -59,6 +58,7 @@ fn lock_told(way: Option<ActorId>) -> Told
     }
 }
 
+/// What is told of a request that a copy answers so.
 fn if_there(
     tally: &Tally,
     plan: &Plan,
@@ -69,7 +69,7 @@ fn if_there(
 ) -> Told
     requires tally { IsTally plan.now (reverse log.now) tally.now }
     requires brick { b.0 < 5 }
-    ensures { result ≡ (if has_object plan.now (reverse log.now) g b.0 then told else Told.NoObject) }
+    ensures { (f : Object → Answer) → ((o : Object) → told_by (f o) ≡ told) → result ≡ told_by (copy_answer f (copy_at g (holds plan.now (reverse log.now) b.0))) }
 {
     if tally.has_object(plan, log, b, g) {
         told
@@ -142,37 +142,6 @@ fn look_told(tally: &Tally, plan: &Plan, log: &[Line], b: BrickId, g: Gfid) -> T
 }
 
 // ---- attempts
-
-fn line_at(log: &[Line], position: usize) -> Option<&Line>
-    ensures { option_copied result ≡ from_oldest position (reverse log.now) }
-{
-    item_at(log, position)
-}
-
-fn item_at(log: &[Line], position: usize) -> Option<&Line>
-    ensures { option_copied result ≡ slice_get log.now position }
-{
-    log.get(position)
-}
-
-/// The change of the attempt that begins at a position.
-fn change_at(log: &[Line], position: usize) -> Option<&Change>
-    ensures { option_copied result ≡ change_at position (reverse log.now) }
-{
-    match line_at(log, position) {
-        Some(line) => change_of(line),
-        None => None,
-    }
-}
-
-fn change_of(line: &Line) -> Option<&Change>
-    ensures { option_copied result ≡ change_of line.now }
-{
-    match line {
-        Line::Begin { change, .. } => Some(change),
-        _ => None,
-    }
-}
 
 fn apply_told(
     tally: &Tally,

@@ -4,5 +4,5 @@ use Rattle.afr_trace_build.specs.Shown.{last_object}
 use Rattle.afr_trace_check.specs.Works.{in_work}
 use Rattle.afr_trace_check.proofs.showing.last_object.Given as goal
 
-abbrev pub invariant-loop-line : goal.invariant-loop-line
-invariant-loop-line l = l.object ≡ last_object (in_work l.heal (work l.a.0 (reverse (take l.line-index l.log))))
+abbrev pub invariant-loop-position : goal.invariant-loop-position
+invariant-loop-position l = l.object ≡ last_object (in_work l.heal (work l.a.0 (reverse (take l.position l.log))))
