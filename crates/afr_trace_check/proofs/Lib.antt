@@ -1,5 +1,6 @@
 pub mod BlamingLemmas
 pub mod FillingLemmas
+pub mod OutcomeLemmas
 pub mod ShownLemmas
 pub mod ToldLemmas
 pub mod ViewLemmas

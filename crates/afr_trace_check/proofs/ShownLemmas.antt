@@ -1,19 +1,32 @@
--- What the last line of an actor that lists has shown.
-use Rattle.std.proofs.Common.{◌≡◌, ◌∙◌, ℕ, ◌<◌, ◌==◌, Bool, true, false, List, [], ◌∷◌, Option, Some, None, length, refl, arith, if◌then◌else◌}
+-- What the last looks of a work show, and the last line of an actor that lists.
+use Rattle.std.proofs.Common.{◌≡◌, ◌∙◌, ℕ, ◌<◌, ◌==◌, Bool, true, false, List, [], ◌∷◌, Option, Some, None, length, refl, ap, arith, if◌then◌else◌}
 use Rattle.std.proofs.lemmas.Bool.Decides.{nat_tests}
 use Rattle.std.proofs.lemmas.Option.{same_Some}
+use Rattle.afr_base.specs.declared.ids.Gfid.{Gfid}
 use Rattle.afr_base.specs.declared.ids.NameId.{NameId}
+use Rattle.afr_choice.specs.Looks.{no_looks}
+use Rattle.afr_choice.specs.declared.looked.Looked.{Looked}
 use Rattle.afr_lines.specs.Log.{from_oldest}
+use Rattle.afr_lines.specs.Work.{Work}
 use Rattle.afr_lines.specs.declared.line.Line.{Line}
 use Rattle.afr_lines.specs.declared.line.Line.TheVariants.{Ask}
 use Rattle.afr_lines.specs.declared.request.Request.TheVariants as request
+use Rattle.afr_model.specs.Showing.{looked_by}
 use Rattle.afr_model.specs.Tables.{Past, held_before, holds, names_in, names_shown}
 use Rattle.afr_object.specs.Tables.{Table, copy_at}
 use Rattle.afr_object.specs.declared.entry.Entry.{Entry}
 use Rattle.afr_plan.specs.declared.plan.Plan.{Plan}
-use Rattle.afr_trace_build.specs.Shown.{last_listed}
+use Rattle.afr_trace_build.specs.Shown.{last_listed, last_object, last_views, views_at}
 use Rattle.afr_trace_check.specs.Works.{last_list, lists}
 
+-- ---- the last looks
+pub views_some : (w : Work) (g : Gfid) (l : Looked) → Some g ≡ last_object w → l ≡ looked_by g w → l.views ≡ last_views w
+views_some w g l h e = ap (λ (x : Looked). x.views) e ∙ ap (λ (o : Option Gfid). views_at o w) h
+
+pub views_none : (w : Work) (l : Looked) → None ≡ last_object w → l ≡ no_looks → l.views ≡ last_views w
+views_none w l h e = ap (λ (x : Looked). x.views) e ∙ ap (λ (o : Option Gfid). views_at o w) h
+
+-- ---- the last list
 -- it stands before the next line
 list_within : (a : ℕ) (log : List Line) (k : ℕ) → last_list a log ≡ Some k → k < length log
 list_within a [] k h = absurd (cc)

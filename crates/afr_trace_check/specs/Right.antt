@@ -1,11 +1,5 @@
 -- What the check of a trace says, by the log that the trace builds.
---
--- What each rule needs of the tally of the lines before: Text the works that ended, the reads and their contents, the last looks and
--- lists of the present work, tables and sums. Follows the works that ended, the killed actors, the events, and for the present work
--- its path by the tables. Honest tables, sums, locks, sessions and the count of requests. Blamed nothing but the present work: its
--- attempt, looks, locks and phases. Safe tables and sums, and of each cell that a line touches the attempts on it and the last of them
--- that is acknowledged.
-use Rattle.std.specs.Prelude.{◌≡◌, ℕ, List, ◌∷◌, ◌++◌, false, length}
+use Rattle.std.specs.Prelude.{◌≡◌, ◌⊎◌, ◌<◌, ℕ, List, ◌∷◌, ◌++◌, false, true, length}
 use Rattle.afr_lines.specs.Log.{EveryPrefix}
 use Rattle.afr_lines.specs.declared.line.Line.{Line}
 use Rattle.afr_model.specs.Blamed.{AreBlamed}
@@ -18,6 +12,12 @@ use Rattle.afr_trace_check.specs.declared.finding.Finding.{Finding}
 use Rattle.afr_trace_check.specs.declared.finding.Finding.TheVariants as finding
 use Rattle.afr_trace_check.specs.declared.finding.Rule.{Rule}
 use Rattle.afr_trace_check.specs.declared.finding.Rule.TheVariants as rule
+use Rattle.afr_trace_limits.specs.Limits.{is_past_limit}
+use Rattle.afr_trace_read.specs.Trace.{line_feeds}
+
+-- the check of a trace is past its limit: the trace has too many lines, or its plan files that are too long
+abbrev pub IsPastLimit : Plan → List ℕ → Type 0
+IsPastLimit p text = (2000 < line_feeds text) ⊎ (is_past_limit p ≡ true)
 
 -- a log keeps every rule
 pub record IsRight (p : Plan) (log : List Line) : Type 0 where

@@ -60,7 +60,15 @@ pub fn is_honest(tally: &Tally, plan: &Plan, log: &[Line], line: &Line) -> bool
 fn is_outcome(told: Told, took: bool, outcome: RequestOutcome) -> bool
     ensures { (result ≡ true) ↔ ((record { told = told; took = took }) ≡ outcome) }
 {
-    same_told(told, outcome.told) && took == outcome.took
+    let same = same_told(told, outcome.told);
+    let likewise = same_flag(took, outcome.took);
+    same && likewise
+}
+
+fn same_flag(one: bool, other: bool) -> bool
+    ensures { (result ≡ true) ↔ (one ≡ other) }
+{
+    if one { other } else { !other }
 }
 
 fn outcome_of(

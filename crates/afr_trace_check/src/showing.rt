@@ -221,7 +221,6 @@ fn last_list(log: &[Line], a: ActorId) -> Option<u32>
 }
 
 /// The names that the last list of an actor showed.
-#[tactic(auto, using(crate::proofs::ShownLemmas::listed_some, crate::proofs::ShownLemmas::listed_none))]
 fn last_listed(
     alloc: Global,
     tally: &Tally,

@@ -7,7 +7,10 @@ use Rattle.afr_lines.specs.declared.line.Line.{Line}
 use Rattle.afr_model.specs.Report.{started_bricks}
 use Rattle.afr_model.specs.Sessions.{ends_session, is_joined, is_linked, linked_by}
 use Rattle.afr_plan.specs.declared.plan.Plan.{Plan}
+use Rattle.afr_trace_tally.specs.Actors.{IsActorTally}
 use Rattle.afr_trace_tally.specs.Flags.{flags}
+use Rattle.afr_trace_tally.specs.declared.actors.ActorTally.{ActorTally}
+use Rattle.afr_trace_tally.proofs.PlaceLemmas.{IsBetween, next_left}
 
 -- links after a line
 pub linked_more : (a : ℕ) (line : Line) (older : List Line) (was : List Bool) → was ≡ flags (λ b. is_linked a b older)
@@ -42,3 +45,10 @@ place_more a line older was h = ap (λ (w : Place). if is_of a line then next_pl
 
 pub killed_more : (a : ℕ) (line : Line) (older : List Line) (was : Bool) → was ≡ is_killed a older → (kills a line || was) ≡ is_killed a (line ∷ older)
 killed_more a line older was h = ap (λ (w : Bool). kills a line || w) h
+
+-- an actor that is still to come has ended few works
+pub ended_few : (p : Plan) (line : Line) (older : List Line) (n : ℕ) (xs : List ActorTally) (d : ActorTally) → n < length xs → length older < 2147483648 → IsBetween (IsActorTally p (line ∷ older)) (IsActorTally p older) n xs
+    → (get_or xs n d).ended < 4294967295
+ended_few p line older n xs d low few so =
+    let was : IsActorTally p older n (get_or xs n d) = next_left (IsActorTally p (line ∷ older)) (IsActorTally p older) n xs d low so in
+    omega (arith, was.few, few)

@@ -61,10 +61,14 @@ merged_read kept (Some r ∷ reads) zero l = refl
 merged_read kept (x ∷ reads) (suc k) l = merged_read kept reads k (omega (arith, l))
 
 -- ---- what was shown
+-- what a line shows of the tables of the bricks, where there is one
+abbrev shown_then : (ℕ → Table) → Option Line → Contents
+shown_then now (Some line) = shown_at now line
+shown_then now None = Nothing
+
 -- what a line showed of the past
 abbrev shown_by : Past → ℕ → Option Line → Contents
-shown_by past k (Some line) = shown_at (past k) line
-shown_by past k None = Nothing
+shown_by past k line = shown_then (past k) line
 
 length_shown : (p : Plan) (log : List Line) → length (all_shown p log) ≡ length log
 length_shown p [] = refl
@@ -72,15 +76,13 @@ length_shown p (line ∷ older) = ap suc (length_shown p older)
 
 shown_past : (p : Plan) (log : List Line) (k : ℕ) → or_nothing (from_oldest k (all_shown p log)) ≡ shown_by (plain_tables p log).past k (from_oldest k log)
 shown_past p [] k = refl
-shown_past p (line ∷ older) k = by_place (k == length older) refl
+shown_past p (line ∷ older) k = rw (length_shown p older) (split (k == length older) (shown_past p older k))
   where
-    split : (t : Bool) → or_nothing (if t then Some (shown_at (plain_tables p older).now line) else from_oldest k (all_shown p older))
-        ≡ shown_by (λ j b. if t then (plain_tables p older).now b else (plain_tables p older).past j b) k (if t then Some line else from_oldest k older)
-    split true = refl
-    split false = shown_past p older k
-
-    by_place : (t : Bool) → (k == length older) ≡ t → or_nothing (from_oldest k (all_shown p (line ∷ older))) ≡ shown_by (plain_tables p (line ∷ older)).past k (from_oldest k (line ∷ older))
-    by_place t e = rw (length_shown p older, e) (split t)
+    split : (t : Bool) → or_nothing (from_oldest k (all_shown p older)) ≡ shown_then ((plain_tables p older).past k) (from_oldest k older)
+        → or_nothing (if t then Some (shown_at (plain_tables p older).now line) else from_oldest k (all_shown p older))
+        ≡ shown_then (λ b. if t then (plain_tables p older).now b else (plain_tables p older).past k b) (if t then Some line else from_oldest k older)
+    split true h = refl
+    split false h = h
 
 -- what was kept at a position is what the line there showed
 kept_is : (p : Plan) (log : List Line) (kept : List Contents) → reverse kept ≡ all_shown p log → (k : ℕ) → kept_at k kept ≡ shown_by (plain_tables p log).past k (from_oldest k log)

@@ -1,5 +1,5 @@
 -- What is counted of a log, one line more.
-use Rattle.std.proofs.Common.{◌≡◌, ℕ, zero, suc, ◌+◌, ◌*◌, ◌^◌, ◌<◌, ◌≤◌, ◌==◌, ◌&&◌, Bool, true, false, List, [], ◌∷◌, Option, Some, None, length, refl, sym, ap, ◌∙◌, subst, arith, cond, if◌then◌else◌}
+use Rattle.std.proofs.Common.{◌≡◌, ℕ, zero, suc, ◌+◌, ◌-◌, ◌*◌, ◌^◌, ◌<◌, ◌≤◌, ◌==◌, ◌&&◌, Bool, true, false, List, [], ◌∷◌, Option, Some, None, length, refl, sym, ap, ◌∙◌, subst, arith, cond, if◌then◌else◌}
 use Rattle.std.proofs.lemmas.Bool.Decides.{nat_tests}
 use Rattle.std.proofs.lemmas.Bool.{eqb-true}
 use Rattle.std.specs.Prelude.{slice_index}
@@ -14,7 +14,7 @@ use Rattle.afr_base.specs.declared.marks.Marks.{Marks}
 use Rattle.afr_lines.specs.declared.line.Line.{Line}
 use Rattle.afr_lines.specs.declared.line.Line.TheVariants.{Ask}
 use Rattle.afr_lines.specs.declared.request.Request.TheVariants.{Pre, Post, Settle}
-use Rattle.afr_model.specs.Sums.{blames, closes_op, has_object, opens_op, settles_dirty, settles_pending, sum_over}
+use Rattle.afr_model.specs.Sums.{blames, closes_op, dirty_of, has_object, opens_op, pending_of, settles_dirty, settles_pending, sum_over}
 use Rattle.afr_object.specs.Tables.{gfid_cmp}
 use Rattle.afr_object.specs.TablesLemmas.{same_gfid}
 use Rattle.afr_plan.specs.declared.plan.Plan.{Plan}
@@ -267,3 +267,13 @@ counted_more p line older x counts ct e has one was = record { sums = sums; smal
     small g kind =
         subst (IsSmall (suc (length older))) (sym (new_count ct.gfid g ct.count ct.kind kind counts))
         (small_either ((ct.gfid.0 == g.0) && same_kind ct.kind kind) (length older) ct.count (count_at g (counts_for kind counts)) one (was.small g kind))
+
+-- ---- the numbers
+-- what is left of a count
+abbrev left_of : Count → Marks
+left_of n = record { dirty = n.opened - n.closed; pending = five (λ b. slice_index n.blamed b - slice_index n.settled b) }
+
+-- that is what the sums say
+pub marks_are : (p : Plan) (log : List Line) (x : ℕ) (g : Gfid) (kind : Kind) (n : Count) → n ≡ count_of p log x g kind
+    → left_of n ≡ (record { dirty = dirty_of p log x g kind; pending = five (λ c. pending_of p log x c g kind) })
+marks_are p log x g kind n e = ap (λ (m : Count). left_of m) e

@@ -1,5 +1,5 @@
 -- A log with one line more.
-use Rattle.std.proofs.Common.{◌≡◌, ◌∙◌, ◌≢◌, ℕ, ◌<◌, ◌==◌, true, false, Bool, List, [], ◌∷◌, ◌++◌, length, refl, sym, ap, subst, arith, Some, slice_get, get_or, map, reverse, if◌then◌else◌, ◌+◌}
+use Rattle.std.proofs.Common.{◌≡◌, ◌∙◌, ◌≢◌, ℕ, ◌<◌, ◌≤◌, ◌==◌, true, false, Bool, List, [], ◌∷◌, ◌++◌, length, refl, sym, ap, subst, arith, Some, slice_get, get_or, map, reverse, if◌then◌else◌, ◌+◌}
 use Rattle.std.proofs.lemmas.List.{map-append, reverse-append}
 use Rattle.std.proofs.lemmas.Option.{slice_get-get_or, same_Some}
 use Rattle.afr_lines.specs.Log.{from_oldest}
@@ -28,10 +28,27 @@ known_at log i x low e all = all i x (from_oldest-reverse log i ∙ slice_get-ge
 pub events_more : (line : Line) (older : List Line) (n : ℕ) → n ≡ events_made older → (if is_event line then n + 1 else n) ≡ events_made (line ∷ older)
 events_more line older n h = ap (λ (m : ℕ). if is_event line then m + 1 else m) h
 
--- what one more line showed is kept
-pub shown_more : (p : Plan) (line : Line) (older : List Line) (kept : List Kept) (x : Kept) → contents_seen x ≡ shown_at (plain_tables p older).now line → reverse (map contents_seen kept) ≡ all_shown p older
-    → reverse (map contents_seen (kept ++ x ∷ [])) ≡ all_shown p (line ∷ older)
-shown_more p line older kept x here all = rw (map-append contents_seen kept (x ∷ []), reverse-append (map contents_seen kept) (contents_seen x ∷ []), here, all) refl
+pub few_more : (line : Line) (older : List Line) (n m : ℕ) → n ≤ length older → m ≡ (if is_event line then n + 1 else n) → m ≤ length (line ∷ older)
+few_more line older n m few e = by (is_event line) e
+  where
+    by : (t : Bool) → m ≡ (if t then n + 1 else n) → m ≤ length (line ∷ older)
+    by true h = omega (arith, few, h)
+    by false h = omega (arith, few, h)
 
-pub kept_more : (kept : List Kept) (x : Kept) → IsInOrder (contents_seen x) → IsShort (contents_seen x) → AreKept (map contents_seen kept) → AreKept (map contents_seen (kept ++ x ∷ []))
-kept_more kept x here short all = rw (map-append contents_seen kept (x ∷ [])) (kept_push (map contents_seen kept) (contents_seen x) all here short)
+-- what one more line showed is kept
+pub shown_more : (p : Plan) (line : Line) (older : List Line) (kept ys : List Kept) (x : Kept) → ys ≡ kept ++ x ∷ [] → contents_seen x ≡ shown_at (plain_tables p older).now line → reverse (map contents_seen kept) ≡ all_shown p older
+    → reverse (map contents_seen ys) ≡ all_shown p (line ∷ older)
+shown_more p line older kept ys x e here all = rw (e, map-append contents_seen kept (x ∷ []), reverse-append (map contents_seen kept) (contents_seen x ∷ []), here, all) refl
+
+pub kept_more : (kept ys : List Kept) (x : Kept) → ys ≡ kept ++ x ∷ [] → IsInOrder (contents_seen x) → IsShort (contents_seen x) → AreKept (map contents_seen kept) → AreKept (map contents_seen ys)
+kept_more kept ys x e here short all = rw (e, map-append contents_seen kept (x ∷ [])) (kept_push (map contents_seen kept) (contents_seen x) all here short)
+
+-- before the first line nothing was shown
+pub none_shown : (p : Plan) (kept : List Kept) → kept ≡ [] → reverse (map contents_seen kept) ≡ all_shown p []
+none_shown p kept e = rw e refl
+
+pub none_kept : (kept : List Kept) → kept ≡ [] → AreKept (map contents_seen kept)
+none_kept kept e = rw e tt
+
+pub none_known : AreKnown []
+none_known k line e = absurd (cc)

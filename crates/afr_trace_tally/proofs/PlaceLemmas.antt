@@ -1,5 +1,5 @@
 -- What stands at a place of a list, after a write and after a push too.
-use Rattle.std.proofs.Common.{◌≡◌, ◌≢◌, ℕ, zero, suc, ◌+◌, ◌<◌, ◌≤◌, ◌==◌, true, false, List, [], ◌∷◌, ◌++◌, length, refl, sym, ap, subst, arith, ◌∙◌, Some, slice_get, get_or, set, length-set, replicate, ◌⊎◌, inl, inr}
+use Rattle.std.proofs.Common.{◌≡◌, ◌≢◌, ℕ, zero, suc, ◌+◌, ◌<◌, ◌≤◌, ◌==◌, true, false, List, [], ◌∷◌, ◌++◌, length, refl, sym, ap, subst, arith, ◌∙◌, Some, slice_get, get_or, set, length-set, length-append, replicate, ◌⊎◌, inl, inr}
 use Rattle.std.proofs.lemmas.Bool.Decides.{eqb_tells}
 use Rattle.std.proofs.lemmas.Option.{slice_get-get_or, slice_get_within}
 
@@ -22,10 +22,6 @@ one_there xs i j x y e h k = only_one (sym h ∙ ap (slice_get xs) (sym e) ∙ k
     only_one : Some x ≡ Some y → x ≡ y
     only_one e = cc
 
--- what was read at a place stands there
-pub read_at : {A : Type 0} (xs : List A) (i : ℕ) (x : A) → i < length xs → x ≡ get_or xs i x → slice_get xs i ≡ Some x
-read_at xs i x small e = slice_get-get_or xs i x small ∙ ap Some (sym e)
-
 -- what stands in a list with one more at its end: what stood there, or the last
 got_push : {A : Type 0} (xs : List A) (last : A) (i : ℕ) (x : A) → slice_get (xs ++ last ∷ []) i ≡ Some x → (slice_get xs i ≡ Some x) ⊎ ((i ≡ length xs) × (last ≡ x))
 got_push [] last zero x h = inr (refl, one_there (last ∷ []) zero zero last x refl refl h)
@@ -47,6 +43,13 @@ each_push {A} P xs last here all i x h = split (got_push xs last i x h)
     split : (slice_get xs i ≡ Some x) ⊎ ((i ≡ length xs) × (last ≡ x)) → P i x
     split (inl k) = all i x k
     split (inr k) = subst (λ (n : ℕ). P n x) (sym k.0) (subst (λ (y : A). P (length xs) y) k.1 here)
+
+-- the same of a list that another one with one more at its end is
+pub each_pushed : {A : Type 0} (P : ℕ → A → Type 0) (xs ys : List A) (last : A) (n : ℕ) → ys ≡ xs ++ last ∷ [] → length xs ≡ n → P n last → EachAt P xs → EachAt P ys
+each_pushed {A} P xs ys last n e len here all = subst (EachAt P) (sym e) (each_push P xs last (subst (λ (m : ℕ). P m last) (sym len) here) all)
+
+pub length_pushed : {A : Type 0} (xs ys : List A) (last : A) (n : ℕ) → ys ≡ xs ++ last ∷ [] → length xs ≡ n → length ys ≡ n + 1
+length_pushed {A} xs ys last n e len = omega (arith, ap (λ (zs : List A). length zs) e, length-append xs (last ∷ []), len)
 
 pub each_replicate : {A : Type 0} (P : ℕ → A → Type 0) (n : ℕ) (v : A) → ((i : ℕ) → P i v) → EachAt P (replicate n v)
 each_replicate {A} P n v all i x h = subst (P i) (is n i h) (all i)
@@ -81,3 +84,7 @@ one_done {A} New Old n m xs ys v next low e new so = record { done = done; left 
 
 pub all_done : {A : Type 0} (New Old : ℕ → A → Type 0) (n : ℕ) (xs : List A) → length xs ≤ n → IsBetween New Old n xs → EachAt New xs
 all_done New Old n xs long so i x h = so.done i x (omega (arith, slice_get_within xs i x h, long)) h
+
+-- the next place still has its old fact
+pub next_left : {A : Type 0} (New Old : ℕ → A → Type 0) (n : ℕ) (xs : List A) (d : A) → n < length xs → IsBetween New Old n xs → Old n (get_or xs n d)
+next_left New Old n xs d low so = so.left n (get_or xs n d) (omega arith) (slice_get-get_or xs n d low)

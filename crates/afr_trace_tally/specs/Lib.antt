@@ -2,6 +2,7 @@ pub mod Flags
 pub mod Seen
 pub mod Actors
 pub mod Contents
+pub mod Entries
 pub mod Counts
 pub mod Room
 pub mod Bricks

@@ -10,6 +10,7 @@ use Rattle.afr_plan.specs.declared.plan.Plan.{Plan}
 use Rattle.afr_trace_tally.specs.Actors.{IsActorTally}
 use Rattle.afr_trace_tally.specs.Bricks.{AreBricks}
 use Rattle.afr_trace_tally.specs.Contents.{AreKept, all_shown, contents_seen}
+use Rattle.afr_trace_tally.specs.Entries.{all_entries}
 use Rattle.afr_trace_tally.specs.Flags.{flags}
 use Rattle.afr_trace_tally.specs.declared.actors.ActorTally.{ActorTally}
 use Rattle.afr_trace_tally.specs.declared.tally.Tally.{Tally}
@@ -37,4 +38,5 @@ pub record IsTally (p : Plan) (log : List Line) (t : Tally) : Type 0 where
   pub few_events : t.events ≤ length log
   pub shown : reverse (map contents_seen t.shown.items) ≡ all_shown p log
   pub kept : AreKept (map contents_seen t.shown.items)
+  pub entries : reverse t.entries.items ≡ all_entries p log
   pub known : AreKnown log

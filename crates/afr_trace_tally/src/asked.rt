@@ -17,6 +17,7 @@ ghost use Rattle.afr_trace_tally.specs.Actors.{IsActorTally};
 ghost use Rattle.afr_trace_tally.specs.Bricks.{IsBrickTally};
 ghost use Rattle.afr_trace_tally.specs.Contents.{IsShort, bytes_among, contents_seen};
 ghost use Rattle.afr_trace_tally.specs.Counts.{IsSmall, count_of};
+ghost use Rattle.afr_trace_tally.specs.Entries.{entry_shown};
 ghost use Rattle.afr_trace_tally.specs.Flags.{five};
 ghost use Rattle.afr_trace_tally.specs.Tally.{IsTally};
 
@@ -24,12 +25,13 @@ use crate::actors::ActorTally;
 use crate::bricks::BrickTally;
 use crate::contents::{Kept, kept_at, names_in};
 use crate::counts::{Count, count_at};
+use crate::entries::entry_in;
 use crate::locks::first_conflict;
 use crate::sessions::opens_with;
 use crate::tally::Tally;
 use afr_base::{ActorId, BrickId, Gfid, Kind, Marks, NoMemory};
 use afr_lines::{Area, Domain, Line};
-use afr_object::{List, NameList, View};
+use afr_object::{Entry, List, NameList, View};
 use afr_plan::Plan;
 use std::alloc::Global;
 
@@ -272,5 +274,15 @@ impl Tally {
             Some(kept) => names_in(alloc, kept),
             None => Ok(List::new(alloc)),
         }
+    }
+
+    /// The entry that the line at a position showed, which asked for a name.
+    pub fn entry_shown(&self, plan: &Plan, log: &[Line], position: u32) -> Option<Entry>
+        requires tally { IsTally plan.now (reverse log.now) self.now }
+        ensures { result ≡ entry_shown (held_before plan.now (reverse log.now)) position (from_oldest position (reverse log.now)) }
+    {
+        let _plan = plan;
+        let _log = log;
+        entry_in(self.entries.as_slice(), position)
     }
 }

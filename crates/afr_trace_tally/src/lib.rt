@@ -6,6 +6,7 @@ mod asked;
 mod bricks;
 mod contents;
 mod counts;
+mod entries;
 mod locks;
 mod sessions;
 mod stop;
@@ -14,5 +15,6 @@ mod tally;
 mod works;
 
 pub use stop::TallyStop;
+pub use tables::{change_at, change_of};
 pub use tally::{Tally, asks_known};
 pub use works::{is_end, is_of};

@@ -33,7 +33,7 @@ fn item_at(log: &[Line], position: usize) -> Option<&Line>
 }
 
 /// The change of the attempt that begins at a position.
-fn change_at(log: &[Line], position: usize) -> Option<&Change>
+pub fn change_at(log: &[Line], position: usize) -> Option<&Change>
     ensures { option_copied result ≡ change_at position (reverse log.now) }
 {
     match line_at(log, position) {
@@ -42,7 +42,8 @@ fn change_at(log: &[Line], position: usize) -> Option<&Change>
     }
 }
 
-fn change_of(line: &Line) -> Option<&Change>
+/// The change of the attempt that a line begins.
+pub fn change_of(line: &Line) -> Option<&Change>
     ensures { option_copied result ≡ change_of line.now }
 {
     match line {

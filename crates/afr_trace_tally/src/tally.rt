@@ -16,14 +16,17 @@ ghost use Rattle.afr_trace_tally.specs.Tally.{AreActors, AsksKnown, IsTally};
 use crate::actors::{ActorTally, first_started, new_actor, next_actor, next_started};
 use crate::bricks::{BrickTally, add_to_bricks, new_bricks};
 use crate::contents::{Kept, asked_by, carried_for, shown_of};
+use crate::entries::{entry_now, keep_entry};
 use crate::stop::TallyStop;
 use crate::works::is_event;
 use afr_base::{ActorId, BrickId, NoMemory};
 use afr_lines::{Line, Request};
+use afr_object::Entry;
 use afr_plan::Plan;
 use std::alloc::Global;
 
-/// What the lines of a log so far have made of bricks and actors, how many events have come, and what each line showed that reads.
+/// What the lines of a log so far have made of bricks and actors, how many events have come, what each line
+/// showed that reads bytes, attributes or names, and which entry each showed that asked for a name.
 #[derive(Drop)]
 pub struct Tally {
     pub(crate) bricks: Vec<BrickTally>,
@@ -31,6 +34,7 @@ pub struct Tally {
     pub(crate) started: [bool; 5],
     pub(crate) events: u32,
     pub(crate) shown: Vec<Kept>,
+    pub(crate) entries: Vec<Option<Entry>>,
 }
 
 /// Whether the line, where it asks, is of one of twenty actors and asks one of five bricks.
@@ -137,6 +141,7 @@ impl Tally {
             started: first_started(plan.shape.n),
             events: 0,
             shown: Vec::new(alloc),
+            entries: Vec::new(alloc),
         })
     }
 
@@ -157,7 +162,9 @@ impl Tally {
     {
         let kept = carried_for(alloc, self.shown.as_slice(), line)?;
         let shown = shown_now(alloc, self.bricks.as_slice(), plan, line, older)?;
+        let entry = entry_now(self.bricks.as_slice(), plan, line, older);
         keep(&mut self.shown, shown)?;
+        keep_entry(&mut self.entries, entry)?;
         add_to_bricks(&mut self.bricks, plan, line, older, &kept)?;
         add_to_actors(&mut self.actors, plan, line, older, &self.started);
         self.started = next_started(line, &self.started);
