@@ -1,5 +1,5 @@
 -- The test of a post-op passes exactly where it blames with a cause.
-use Rattle.std.proofs.Common.{◌≡◌, ◌↔◌, ◌∙◌, ℕ, ◌==◌, ◌&&◌, ◌||◌, not, Bool, true, false, List, [], ◌∷◌, Option, Some, None, refl, sym, ap, arith, subst, if◌then◌else◌}
+use Rattle.std.proofs.Common.{◌≡◌, ◌↔◌, ◌∙◌, ℕ, ◌==◌, ◌&&◌, not, Bool, true, false, List, Option, Some, None, refl, sym, ap, arith}
 use Rattle.std.proofs.lemmas.Bool.{eqb-true}
 use Rattle.std.proofs.lemmas.Bool.Decides.{nat_tests}
 use Rattle.afr_base.specs.Bricks.{IsIn, and_left, and_right, below, is_nothing, member, minus, same, same_is}
@@ -7,12 +7,10 @@ use Rattle.afr_base.specs.Kinds.{same_kind}
 use Rattle.afr_base.specs.SetLemmas.{no_member, member_minus, none_left, same_self}
 use Rattle.afr_base.specs.declared.ids.Gfid.{Gfid}
 use Rattle.afr_base.specs.declared.ids.Kind.{Kind}
-use Rattle.afr_base.specs.declared.ids.Kind.TheVariants.{Bytes, Attrs, Names}
 use Rattle.afr_lines.specs.Areas.{kind_for}
 use Rattle.afr_lines.specs.Work.{Work}
-use Rattle.afr_lines.specs.declared.line.Line.{Line}
 use Rattle.afr_model.specs.Blamed.{IsBlaming, missing}
-use Rattle.afr_model.specs.Showing.{among, applied_at, begun_by, has, looked_by, posting}
+use Rattle.afr_model.specs.Showing.{among, applied_at, begun_by, looked_by, posting}
 use Rattle.afr_model.specs.Standing.{change_by, locks_any, since, suffices}
 use Rattle.afr_model_moves.proofs.Tests.{same_kind_self, same_kind_yes}
 use Rattle.afr_object.specs.Tables.{object_of}
@@ -71,8 +69,8 @@ module _ (p : Plan) (attempt : ℕ) (g : Gfid) (kind : Kind) (missed : List ℕ)
   blames : is_blaming p attempt g kind missed b w ≡ true → IsBlaming p attempt g kind missed b w
   blames h =
       let t =
-          all_seven (is_position (begun_by w) attempt) (is_change_of (change_by w) g kind) (not (member (among posting w) b)) (member (among applied_at w) b) (suffices p.shape kind (looked_by g w) (among applied_at w))
-          (same missed (minus (below p.shape.n) (among applied_at w))) (is_nothing (minus missed (among (missing g) (since locks_any w)))) h in
+      all_seven (is_position (begun_by w) attempt) (is_change_of (change_by w) g kind) (not (member (among posting w) b)) (member (among applied_at w) b) (suffices p.shape kind (looked_by g w) (among applied_at w))
+      (same missed (minus (below p.shape.n) (among applied_at w))) (is_nothing (minus missed (among (missing g) (since locks_any w)))) h in
       by_change (begun_by w) (change_by w) refl refl t.0 t.1 t.2 t.3 t.4 t.5 t.6
 
   passes : IsBlaming p attempt g kind missed b w → is_blaming p attempt g kind missed b w ≡ true

@@ -12,7 +12,7 @@ use Rattle.afr_plan.specs.declared.plan.Plan.{Plan}
 use Rattle.afr_trace_build.specs.Shown.{empty_view, view_with}
 use Rattle.afr_trace_tables.proofs.BareLaws.{copy_bare}
 use Rattle.afr_trace_tables.proofs.PlainLaws.{now_bare}
-use Rattle.afr_trace_tables.specs.Plain.{bare, bare_object, plain_tables}
+use Rattle.afr_trace_tables.specs.Plain.{bare_object, plain_tables}
 
 -- what is found without numbers
 found : (p : Plan) (log : List Line) (b : ℕ) (g : Gfid) → option_map view_of (copy_at g ((plain_tables p log).now b)) ≡ option_map view_of (option_map bare_object (copy_at g (holds p log b)))

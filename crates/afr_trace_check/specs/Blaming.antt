@@ -1,5 +1,5 @@
 -- Whether a post-op blames with a cause, as a test.
-use Rattle.std.specs.Prelude.{ℕ, ◌==◌, ◌&&◌, not, Bool, true, false, List, Option, Some, None}
+use Rattle.std.specs.Prelude.{ℕ, ◌==◌, ◌&&◌, not, Bool, false, List, Option, Some, None}
 use Rattle.afr_base.specs.Bricks.{below, is_nothing, member, minus, same}
 use Rattle.afr_base.specs.Kinds.{same_kind}
 use Rattle.afr_base.specs.declared.ids.Gfid.{Gfid}

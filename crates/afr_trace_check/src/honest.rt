@@ -103,14 +103,7 @@ fn planned_fault(tally: &Tally, plan: &Plan, log: &[Line], b: BrickId) -> Option
 }
 
 /// Whether the session is live, be it by this line.
-fn is_live(
-    tally: &Tally,
-    plan: &Plan,
-    log: &[Line],
-    a: ActorId,
-    b: BrickId,
-    line: &Line,
-) -> bool
+fn is_live(tally: &Tally, plan: &Plan, log: &[Line], a: ActorId, b: BrickId, line: &Line) -> bool
     requires tally { IsTally plan.now (reverse log.now) tally.now }
     requires actor { a.0 < 20 }
     requires brick { b.0 < 5 }

@@ -201,11 +201,7 @@ fn lists(a: ActorId, line: &Line) -> bool
 fn list_more(a: ActorId, line: &Line, position: u32, was: Option<u32>) -> Option<u32>
     ensures { (older : List Line) → position ≡ length older → result ≡ (if lists a.0 line.now then Some (length older) else was) }
 {
-    if lists(a, line) {
-        Some(position)
-    } else {
-        was
-    }
+    if lists(a, line) { Some(position) } else { was }
 }
 
 /// The position of the last line of an actor that lists.
@@ -257,9 +253,7 @@ fn ask_shown(
         (SpelledRequest::Look { gfid }, Answered::Seen) => {
             Shown::View(view_shown(tally, plan, log, b, *gfid))
         }
-        (SpelledRequest::Copy { read, .. }, _) => {
-            Shown::Bytes(tally.read_len(plan, log, *read))
-        }
+        (SpelledRequest::Copy { read, .. }, _) => { Shown::Bytes(tally.read_len(plan, log, *read)) }
         _ => Shown::Nothing,
     }
 }

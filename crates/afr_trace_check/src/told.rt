@@ -59,14 +59,7 @@ fn lock_told(way: Option<ActorId>) -> Told
 }
 
 /// What is told of a request that a copy answers so.
-fn if_there(
-    tally: &Tally,
-    plan: &Plan,
-    log: &[Line],
-    b: BrickId,
-    g: Gfid,
-    told: Told,
-) -> Told
+fn if_there(tally: &Tally, plan: &Plan, log: &[Line], b: BrickId, g: Gfid, told: Told) -> Told
     requires tally { IsTally plan.now (reverse log.now) tally.now }
     requires brick { b.0 < 5 }
     ensures { (f : Object → Answer) → ((o : Object) → told_by (f o) ≡ told) → result ≡ told_by (copy_answer f (copy_at g (holds plan.now (reverse log.now) b.0))) }
@@ -95,13 +88,7 @@ fn all_marks(tally: &Tally, plan: &Plan, log: &[Line], b: BrickId, g: Gfid) -> A
 }
 
 /// What a look at an object that the brick has shows.
-pub(crate) fn view_shown(
-    tally: &Tally,
-    plan: &Plan,
-    log: &[Line],
-    b: BrickId,
-    g: Gfid,
-) -> View
+pub(crate) fn view_shown(tally: &Tally, plan: &Plan, log: &[Line], b: BrickId, g: Gfid) -> View
     requires tally { IsTally plan.now (reverse log.now) tally.now }
     requires brick { b.0 < 5 }
     requires few { length log.now < 2147483648 }

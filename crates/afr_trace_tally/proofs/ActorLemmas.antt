@@ -1,5 +1,5 @@
 -- What is kept of an actor, one line more.
-use Rattle.std.proofs.Common.{◌≡◌, ◌∙◌, ℕ, ◌+◌, ◌<◌, ◌≤◌, ◌&&◌, ◌||◌, not, Bool, true, false, List, [], ◌∷◌, length, refl, sym, ap, arith, get_or, if◌then◌else◌}
+use Rattle.std.proofs.Common.{◌≡◌, ◌∙◌, ℕ, ◌+◌, ◌<◌, ◌≤◌, ◌&&◌, ◌||◌, not, Bool, true, false, List, ◌∷◌, length, ap, arith, get_or, if◌then◌else◌}
 use Rattle.afr_base.specs.Bricks.{member}
 use Rattle.afr_lines.specs.Places.{Place, next_place, opens, place_of}
 use Rattle.afr_lines.specs.Work.{ended, ends_work, is_killed, is_of, kills}

@@ -1,6 +1,5 @@
 -- What was shown at each position of a log, and what a repair carries of it.
-use Rattle.std.proofs.Common.{◌≡◌, ◌∙◌, ℕ, zero, suc, ◌+◌, ◌<◌, ◌==◌, Bool, true, false, List, [], ◌∷◌, ◌++◌, length, drop, get_or, ap, sym, refl, arith, subst, Option, Some, None, reverse, slice_get, map, ◌⊎◌, inl, inr, if◌then◌else◌}
-use Rattle.std.proofs.lemmas.Bool.Decides.{eqb_tells}
+use Rattle.std.proofs.Common.{◌≡◌, ◌∙◌, ℕ, zero, suc, ◌<◌, ◌==◌, Bool, true, false, List, [], ◌∷◌, ◌++◌, length, drop, get_or, ap, sym, refl, arith, Option, Some, None, reverse, slice_get, if◌then◌else◌}
 use Rattle.std.specs.BTreeMap.{is_at, insert_entry}
 use Rattle.std.specs.List.Sorted.{IsStrictlySortedBy}
 use Rattle.std.specs.Map.{lookup}
@@ -22,7 +21,7 @@ use Rattle.afr_object.specs.declared.change.Repair.TheVariants.{CutTo, Copy, Put
 use Rattle.afr_object.specs.declared.entry.Entry.{Entry}
 use Rattle.afr_plan.specs.declared.plan.Plan.{Plan}
 use Rattle.afr_trace_tables.specs.Plain.{plain_tables}
-use Rattle.afr_trace_tally.specs.Contents.{AreKept, Brings, IsShort, all_shown, attrs_among, bytes_among, carried_for, carried_of, kept_at, names_among, names_by, names_kept, or_nothing, repair_in, shown_at, shown_of}
+use Rattle.afr_trace_tally.specs.Contents.{AreKept, Brings, IsShort, all_shown, attrs_among, bytes_among, carried_for, carried_of, kept_at, names_among, names_by, names_kept, or_nothing, repair_in, shown_at}
 
 -- ---- order
 -- no entries are in order

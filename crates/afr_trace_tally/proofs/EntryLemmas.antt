@@ -19,7 +19,7 @@ use Rattle.afr_plan.specs.declared.plan.Plan.{Plan}
 use Rattle.afr_trace_tables.proofs.BareLaws.{copy_bare}
 use Rattle.afr_trace_tables.proofs.PlainLaws.{IsBare, past_bare}
 use Rattle.afr_trace_tables.specs.Plain.{bare_object, plain_tables}
-use Rattle.afr_trace_tally.specs.Entries.{all_entries, entry_by, entry_of, entry_shown, or_no_entry}
+use Rattle.afr_trace_tally.specs.Entries.{all_entries, entry_by, entry_shown, or_no_entry}
 
 -- ---- what a brick shows
 -- what a read of a name gives is the name's entry

@@ -1,5 +1,5 @@
 -- What the tables without numbers say of those with numbers.
-use Rattle.std.proofs.Common.{◌≡◌, ◌∙◌, ℕ, Bool, not, List, Option, Some, None, refl, ap, sym, subst, length, map, reverse}
+use Rattle.std.proofs.Common.{◌≡◌, ◌∙◌, ℕ, Bool, not, List, Option, Some, None, refl, ap, sym, subst, map, reverse}
 use Rattle.std.specs.Prelude.{is_some, option_map}
 use Rattle.afr_base.specs.declared.ids.Gfid.{Gfid}
 use Rattle.afr_lines.specs.Log.{from_oldest}
@@ -9,9 +9,7 @@ use Rattle.afr_model.specs.Tables.{bytes_shown, held_before, holds, names_shown}
 use Rattle.afr_object.specs.Object.{Object}
 use Rattle.afr_object.specs.Tables.{Table, copy_at, view_of}
 use Rattle.afr_object.specs.Repairs.{Contents}
-use Rattle.afr_object.specs.declared.entry.Entry.{Entry}
 use Rattle.afr_object.specs.declared.entry.View.{View}
-use Rattle.afr_base.specs.declared.ids.NameId.{NameId}
 use Rattle.afr_plan.specs.declared.plan.Plan.{Plan}
 use Rattle.afr_trace_tally.proofs.ContentLemmas.{list_is, read_is, short_at}
 use Rattle.afr_trace_tally.specs.Contents.{AreKept, IsShort, all_shown, bytes_among, contents_seen, kept_at, names_among}

@@ -154,14 +154,7 @@ impl Tally {
     }
 
     /// Whether the next line opens the actor's session with a brick.
-    pub fn opens_with(
-        &self,
-        plan: &Plan,
-        log: &[Line],
-        a: ActorId,
-        b: BrickId,
-        line: &Line,
-    ) -> bool
+    pub fn opens_with(&self, plan: &Plan, log: &[Line], a: ActorId, b: BrickId, line: &Line) -> bool
         requires tally { IsTally plan.now (reverse log.now) self.now }
         requires actor { a.0 < 20 }
         requires brick { b.0 < 5 }

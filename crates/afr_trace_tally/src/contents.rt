@@ -12,9 +12,7 @@ use crate::stop::TallyStop;
 use afr_base::{BrickId, Gfid, LONGEST_FILE, NameId, NoMemory, What};
 use afr_brick::{Brick, Refused};
 use afr_lines::{Line, Request};
-use afr_object::{
-    AttrList, Chunk, Entry, List, Load, NameList, Repair, SortedMap, TryCopy,
-};
+use afr_object::{AttrList, Chunk, Entry, List, Load, NameList, Repair, SortedMap, TryCopy};
 use std::alloc::Global;
 
 /// What a read showed, or what a repair brings.

@@ -15,7 +15,11 @@ pub(crate) fn drop_released(locks: &mut Vec<HeldLock<Area>>, line: &Line, b: Bri
     locks.retain(|lock| outlives(line, b, lock));
 }
 
-pub(crate) fn add_granted(locks: &mut Vec<HeldLock<Area>>, line: &Line, b: BrickId) -> Result<(), NoMemory>
+pub(crate) fn add_granted(
+    locks: &mut Vec<HeldLock<Area>>,
+    line: &Line,
+    b: BrickId,
+) -> Result<(), NoMemory>
     ensures ok { OnOk result (locks.new.items ≡ locks.old.items ++ granted_by_line b.0 line.now) }
 {
     if let Some(lock) = granted_by_line(line, b) {

@@ -151,13 +151,7 @@ fn event_ends(a: ActorId, b: BrickId, event: Event) -> bool
 
 /// Whether the line opens the actor's session with a brick, by where the actor stands, and by whether the brick is started and
 /// linked to it.
-pub(crate) fn opens_with(
-    a: ActorId,
-    line: &Line,
-    place: Place,
-    started: bool,
-    linked: bool,
-) -> bool
+pub(crate) fn opens_with(a: ActorId, line: &Line, place: Place, started: bool, linked: bool) -> bool
     ensures { result ≡ (is_of a.0 line.now && opens (place_seen place) line.now && started && linked) }
 {
     is_of(a, line) && opens(place, line) && started && linked

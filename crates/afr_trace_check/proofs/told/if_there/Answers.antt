@@ -1,6 +1,4 @@
-use Rattle.std.proofs.Common.{◌≡◌, ◌∙◌, ap, sym, if◌then◌else◌}
-use Rattle.afr_model.specs.Tables.{holds}
-use Rattle.afr_object.specs.Tables.{copy_at}
+use Rattle.std.proofs.Common.{◌∙◌, sym, if◌then◌else◌}
 use Rattle.afr_trace_check.proofs.ToldLemmas.{there_told, absent_told}
 use Rattle.afr_trace_check.proofs.told.if_there.Goals as goal
 

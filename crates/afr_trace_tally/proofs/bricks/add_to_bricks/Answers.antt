@@ -1,4 +1,4 @@
-use Rattle.std.proofs.Common.{◌≡◌, ◌∙◌, ◌+◌, ◌<◌, ◌≤◌, ◌∷◌, length, length-set, refl, reverse, arith}
+use Rattle.std.proofs.Common.{◌∙◌, ◌+◌, ◌∷◌, length, length-set, refl, reverse, arith}
 use Rattle.std.proofs.lemmas.Option.{slice_get_read}
 use Rattle.afr_trace_tally.specs.Bricks.{IsBrickTally}
 use Rattle.afr_trace_tally.proofs.PlaceLemmas.{all_done, none_done, one_done}

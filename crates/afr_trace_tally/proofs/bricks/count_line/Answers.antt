@@ -7,7 +7,7 @@ use Rattle.afr_trace_tally.proofs.bricks.count_line.Goals as goal
 pub returns-then-is_none : goal.returns-then-is_none
 returns-then-is_none c =
     let lacks : has_object c.args.plan.now (reverse c.args.older.now) c.in-Some.counted.gfid c.args.b.0 ≡ false =
-        found_it c.args.plan.now (reverse c.args.older.now) c.in-Some.counted.gfid c.args.b.0 c.args.brick.now.objects c.look.result c.is_none.result c.requires.tables c.look.ensures c.is_none.ensures ∙ ap not c.if-is_none.true in
+    found_it c.args.plan.now (reverse c.args.older.now) c.in-Some.counted.gfid c.args.b.0 c.args.brick.now.objects c.look.result c.is_none.result c.requires.tables c.look.ensures c.is_none.ensures ∙ ap not c.if-is_none.true in
     record {
       ok =
           counted_same c.args.plan.now c.args.line.now (reverse c.args.older.now) c.args.b.0 c.args.counts.now
@@ -17,7 +17,7 @@ returns-then-is_none c =
 pub returns : goal.returns
 returns c =
     let has : has_object c.args.plan.now (reverse c.args.older.now) c.in-Some.counted.gfid c.args.b.0 ≡ true =
-        found_it c.args.plan.now (reverse c.args.older.now) c.in-Some.counted.gfid c.args.b.0 c.args.brick.now.objects c.look.result c.is_none.result c.requires.tables c.look.ensures c.is_none.ensures ∙ ap not c.if-is_none.false in
+    found_it c.args.plan.now (reverse c.args.older.now) c.in-Some.counted.gfid c.args.b.0 c.args.brick.now.objects c.look.result c.is_none.result c.requires.tables c.look.ensures c.is_none.ensures ∙ ap not c.if-is_none.false in
     record {
       ok =
           rw (c.in_ok-put_count.ensures.ok, c.plus-sum.ensures, c.count_at-was.ensures)

@@ -1,4 +1,4 @@
-use Rattle.std.proofs.Common.{◌≡◌, [], length}
+use Rattle.std.proofs.Common.{[]}
 use Rattle.afr_trace_tally.specs.Bricks.{IsBrickTally}
 use Rattle.afr_trace_tally.proofs.PlaceLemmas.{each_pushed, length_pushed}
 use Rattle.afr_trace_tally.proofs.bricks.new_bricks.Goals as goal

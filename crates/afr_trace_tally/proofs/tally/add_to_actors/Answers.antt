@@ -1,4 +1,4 @@
-use Rattle.std.proofs.Common.{◌≡◌, ◌∙◌, ◌+◌, ◌<◌, ◌≤◌, ◌∷◌, length, length-set, refl, reverse, arith}
+use Rattle.std.proofs.Common.{◌∙◌, ◌+◌, ◌<◌, ◌∷◌, length, length-set, refl, reverse, arith}
 use Rattle.std.proofs.lemmas.List.{length-reverse}
 use Rattle.afr_trace_tally.specs.Actors.{IsActorTally}
 use Rattle.afr_trace_tally.proofs.ActorLemmas.{ended_few}
@@ -23,7 +23,7 @@ loop-a-preserved c =
       between =
           one_done (IsActorTally c.args.plan.now (c.args.line.now ∷ reverse c.args.older.now)) (IsActorTally c.args.plan.now (reverse c.args.older.now)) c.loop-a.a (c.loop-a.a + 1) c.loop-a.actors _ c.next_actor.result refl low refl
           (c.next_actor.ensures c.args.plan.now (reverse c.args.older.now) c.requires.started
-            (next_left (IsActorTally c.args.plan.now (c.args.line.now ∷ reverse c.args.older.now)) (IsActorTally c.args.plan.now (reverse c.args.older.now)) c.loop-a.a c.loop-a.actors _ low c.loop-a.invariant.between))
+          (next_left (IsActorTally c.args.plan.now (c.args.line.now ∷ reverse c.args.older.now)) (IsActorTally c.args.plan.now (reverse c.args.older.now)) c.loop-a.a c.loop-a.actors _ low c.loop-a.invariant.between))
           c.loop-a.invariant.between;
     }
 

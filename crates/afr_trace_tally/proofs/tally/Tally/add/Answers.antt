@@ -1,4 +1,4 @@
-use Rattle.std.proofs.Common.{◌≡◌, ◌∙◌, List, ap, map, reverse}
+use Rattle.std.proofs.Common.{◌∙◌, List, ap, map, reverse}
 use Rattle.afr_trace_tally.specs.Contents.{carried_for, contents_seen, repair_in}
 use Rattle.afr_trace_tally.specs.declared.contents.Kept.{Kept}
 use Rattle.afr_trace_tally.proofs.ContentLemmas.{brings}

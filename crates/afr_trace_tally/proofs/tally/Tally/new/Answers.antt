@@ -1,4 +1,4 @@
-use Rattle.std.proofs.Common.{◌≤◌, refl, arith}
+use Rattle.std.proofs.Common.{refl, arith}
 use Rattle.afr_trace_tally.proofs.EntryLemmas.{no_entries}
 use Rattle.afr_trace_tally.proofs.LogLemmas.{none_kept, none_known, none_shown}
 use Rattle.afr_trace_tally.proofs.tally.Tally.new.Goals as goal
