@@ -7,6 +7,8 @@ use Rattle.afr_base.specs.Kinds.{same_kind}
 use Rattle.afr_base.specs.SetLemmas.{no_member, member_minus, none_left, same_self}
 use Rattle.afr_base.specs.declared.ids.Gfid.{Gfid}
 use Rattle.afr_base.specs.declared.ids.Kind.{Kind}
+use Rattle.afr_base.specs.declared.ids.Shape.{Shape}
+use Rattle.afr_choice.specs.declared.looked.Looked.{Looked}
 use Rattle.afr_lines.specs.Areas.{kind_for}
 use Rattle.afr_lines.specs.Work.{Work}
 use Rattle.afr_model.specs.Blamed.{IsBlaming, missing}
@@ -18,8 +20,11 @@ use Rattle.afr_object.specs.declared.change.Change.{Change}
 use Rattle.afr_plan.specs.declared.plan.Plan.{Plan}
 use Rattle.afr_trace_check.specs.Blaming.{is_blaming, is_change_of, is_position}
 
+abbrev numbered : ℕ → Gfid
+numbered n = record { 0 = n }
+
 gfid_same : (g h : Gfid) → g.0 ≡ h.0 → g ≡ h
-gfid_same g h e = ap (λ (n : ℕ). record { 0 = n }) e
+gfid_same g h e = ap (λ (n : ℕ). numbered n) e
 
 -- nothing is left of a set within another
 within_left : (s t : List ℕ) → IsIn s t → is_nothing (minus s t) ≡ true
@@ -42,6 +47,15 @@ all_seven true true true false e f g h = absurd (cc)
 all_seven true true false d e f g h = absurd (cc)
 all_seven true false c d e f g h = absurd (cc)
 all_seven false b c d e f g h = absurd (cc)
+
+seven_true : (a b c d e f g : Bool) → a ≡ true → b ≡ true → c ≡ true → d ≡ true → e ≡ true → f ≡ true → g ≡ true → (a && b && c && d && e && f && g) ≡ true
+seven_true a b c d e f g ha hb hc hd he hf hg = rw (ha, hb, hc, hd, he, hf, hg) refl
+
+two_true : (a b : Bool) → a ≡ true → b ≡ true → (a && b) ≡ true
+two_true a b ha hb = rw (ha, hb) refl
+
+eq_self : (n : ℕ) → (n == n) ≡ true
+eq_self n = grind (arith, nat_tests)
 
 not_true : (b : Bool) → not b ≡ true → b ≡ false
 not_true true h = absurd (cc h)
@@ -75,11 +89,12 @@ module _ (p : Plan) (attempt : ℕ) (g : Gfid) (kind : Kind) (missed : List ℕ)
 
   passes : IsBlaming p attempt g kind missed b w → is_blaming p attempt g kind missed b w ≡ true
   passes s =
-      let here : (attempt == attempt) ≡ true = grind (arith, nat_tests) in
-      let object : (g.0 == (object_of s.change).0) ≡ true = rw (← s.object) (let same : (g.0 == g.0) ≡ true = grind (arith, nat_tests) in same) in
-      let counted : same_kind kind (kind_for s.change) ≡ true = rw (← s.counted) (same_kind_self kind) in
-      let others : same missed (minus (below p.shape.n) (among applied_at w)) ≡ true = rw (← s.others) (same_self missed) in
-      rw (s.begun, s.is_change, here, object, counted, s.once, s.did, s.enough, others, within_left missed (among (missing g) (since locks_any w)) s.why) refl
+      let object : (g.0 == (object_of s.change).0) ≡ true = ap (λ (h : Gfid). g.0 == h.0) (sym s.object) ∙ eq_self g.0 in
+      let counted : same_kind kind (kind_for s.change) ≡ true = ap (λ (k : Kind). same_kind kind k) (sym s.counted) ∙ same_kind_self kind in
+      seven_true (is_position (begun_by w) attempt) (is_change_of (change_by w) g kind) (not (member (among posting w) b)) (member (among applied_at w) b) (suffices p.shape kind (looked_by g w) (among applied_at w))
+      (same missed (minus (below p.shape.n) (among applied_at w))) (is_nothing (minus missed (among (missing g) (since locks_any w)))) (ap (λ (o : Option ℕ). is_position o attempt) s.begun ∙ eq_self attempt)
+      (ap (λ (o : Option Change). is_change_of o g kind) s.is_change ∙ two_true (g.0 == (object_of s.change).0) (same_kind kind (kind_for s.change)) object counted) (ap (λ (f : Bool). not f) s.once) s.did s.enough
+      (ap (λ (t : List ℕ). same missed t) (sym s.others) ∙ same_self missed) (within_left missed (among (missing g) (since locks_any w)) s.why)
 
   pub blaming_is : (is_blaming p attempt g kind missed b w ≡ true) ↔ IsBlaming p attempt g kind missed b w
   blaming_is = (blames, passes)
@@ -97,3 +112,11 @@ same_by s t b e = by b (same s t) refl refl
     by false true hb hs =
         let yes : b ≡ true = e.1 (same_is s t hs) in
         absurd (cc)
+
+-- the same seven tests
+pub same_seven : (a a' b b' c c' d d' e e' f f' g g' : Bool) → a ≡ a' → b ≡ b' → c ≡ c' → d ≡ d' → e ≡ e' → f ≡ f' → g ≡ g' → (a && b && c && d && e && f && g) ≡ (a' && b' && c' && d' && e' && f' && g')
+same_seven a a' b b' c c' d d' e e' f f' g g' ha hb hc hd he hf hg = rw (ha, hb, hc, hd, he, hf, hg) refl
+
+-- the same looks at the same bricks
+pub same_enough : (shape : Shape) (kind : Kind) (l l' : Looked) (s s' : List ℕ) → l ≡ l' → s ≡ s' → suffices shape kind l s ≡ suffices shape kind l' s'
+same_enough shape kind l l' s s' hl hs = ap (λ (x : Looked). suffices shape kind x s) hl ∙ ap (λ (t : List ℕ). suffices shape kind l' t) hs

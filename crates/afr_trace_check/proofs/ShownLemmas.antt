@@ -1,5 +1,5 @@
 -- What the last looks of a work show, and the last line of an actor that lists.
-use Rattle.std.proofs.Common.{◌≡◌, ◌∙◌, ℕ, ◌<◌, ◌==◌, Bool, true, false, List, [], ◌∷◌, Option, Some, None, length, refl, ap, arith, if◌then◌else◌}
+use Rattle.std.proofs.Common.{◌≡◌, ◌∙◌, ℕ, ◌<◌, ◌==◌, Bool, true, false, List, [], ◌∷◌, Option, Some, None, length, refl, sym, ap, arith, if◌then◌else◌}
 use Rattle.std.proofs.lemmas.Bool.Decides.{nat_tests}
 use Rattle.std.proofs.lemmas.Option.{same_Some}
 use Rattle.afr_base.specs.declared.ids.Gfid.{Gfid}
@@ -50,32 +50,51 @@ before : (p : Plan) (line : Line) (older : List Line) (k : ℕ) → k < length o
     → names_then (held_before p (line ∷ older) k) (from_oldest k (line ∷ older)) ≡ names_then (held_before p older k) (from_oldest k older)
 before p line older k low =
     let apart : (k == length older) ≡ false = grind (arith, nat_tests) in
-    rw apart refl
+    split (k == length older) apart
+  where
+    split : (t : Bool) → t ≡ false
+        → names_then (λ b. if t then holds p older b else held_before p older k b) (if t then Some line else from_oldest k older) ≡ names_then (held_before p older k) (from_oldest k older)
+    split false e = refl
+    split true e = absurd (cc)
 
 -- what the newest line showed
 last : (p : Plan) (line : Line) (older : List Line) (k : ℕ) → length older ≡ k → names_then (held_before p (line ∷ older) k) (from_oldest k (line ∷ older)) ≡ names_then (holds p older) (Some line)
 last p line older k same =
     let here : (k == length older) ≡ true = grind (arith, nat_tests) in
-    rw here refl
+    split (k == length older) here
+  where
+    split : (t : Bool) → t ≡ true → names_then (λ b. if t then holds p older b else held_before p older k b) (if t then Some line else from_oldest k older) ≡ names_then (holds p older) (Some line)
+    split true e = refl
+    split false e = absurd (cc)
+
+-- a choice that was made
+if_true : {A : Type 0} (t : Bool) (x y : A) → t ≡ true → x ≡ (if t then x else y)
+if_true true x y e = refl
+if_true false x y e = absurd (cc)
+
+if_false : {A : Type 0} (t : Bool) (x y : A) → t ≡ false → y ≡ (if t then x else y)
+if_false false x y e = refl
+if_false true x y e = absurd (cc)
+
+-- what a line that lists shows was listed last, and one that doesn't changes nothing of that
+newest_listed : (p : Plan) (a : ℕ) (line : Line) (older : List Line) → lists a line ≡ true → names_then (holds p older) (Some line) ≡ last_listed p a (line ∷ older)
+newest_listed p a (Ask x b (request.List g) told took) older e = if_true (x.0 == a) (names_in (copy_at g (holds p older b.0))) (last_listed p a older) e
+newest_listed p a line older e = absurd (cc)
+
+passed : (p : Plan) (a : ℕ) (line : Line) (older : List Line) → lists a line ≡ false → last_listed p a older ≡ last_listed p a (line ∷ older)
+passed p a (Ask x b (request.List g) told took) older e = if_false (x.0 == a) (names_in (copy_at g (holds p older b.0))) (last_listed p a older) e
+passed p a line older e = refl
 
 -- what it showed is what was listed last
 listed_then : (p : Plan) (a : ℕ) (log : List Line) (k : ℕ) → last_list a log ≡ Some k → names_then (held_before p log k) (from_oldest k log) ≡ last_listed p a log
 listed_then p a [] k h = absurd (cc)
 listed_then p a (line ∷ older) k h = by (lists a line) refl h (λ e. before p line older k (list_within a older k e) ∙ listed_then p a older k e)
   where
-    newest : (line : Line) → lists a line ≡ true → names_then (holds p older) (Some line) ≡ last_listed p a (line ∷ older)
-    newest (Ask x b (request.List g) told took) e = rw e refl
-    newest line e = absurd (cc)
-
-    passed : (line : Line) → lists a line ≡ false → last_listed p a older ≡ last_listed p a (line ∷ older)
-    passed (Ask x b (request.List g) told took) e = rw e refl
-    passed line e = refl
-
     by : (t : Bool) → lists a line ≡ t → (if t then Some (length older) else last_list a older) ≡ Some k
         → (last_list a older ≡ Some k → names_then (held_before p (line ∷ older) k) (from_oldest k (line ∷ older)) ≡ last_listed p a older)
         → names_then (held_before p (line ∷ older) k) (from_oldest k (line ∷ older)) ≡ last_listed p a (line ∷ older)
-    by true of e more = last p line older k (same_Some (length older) k e) ∙ newest line of
-    by false of e more = more e ∙ passed line of
+    by true of e more = last p line older k (same_Some (length older) k e) ∙ newest_listed p a line older of
+    by false of e more = more e ∙ passed p a line older of
 
 pub listed_some : (p : Plan) (a : ℕ) (log : List Line) (k : ℕ) → last_list a log ≡ Some k → names_shown (held_before p log) k (from_oldest k log) ≡ last_listed p a log
 listed_some p a log k h = names_are (held_before p log) k (from_oldest k log) ∙ listed_then p a log k h
@@ -85,10 +104,6 @@ pub listed_none : (p : Plan) (a : ℕ) (log : List Line) → last_list a log ≡
 listed_none p a [] h = refl
 listed_none p a (line ∷ older) h = by (lists a line) refl h (λ e. listed_none p a older e)
   where
-    passed : (line : Line) → lists a line ≡ false → last_listed p a (line ∷ older) ≡ last_listed p a older
-    passed (Ask x b (request.List g) told took) e = rw e refl
-    passed line e = refl
-
     by : (t : Bool) → lists a line ≡ t → (if t then Some (length older) else last_list a older) ≡ None → (last_list a older ≡ None → last_listed p a older ≡ []) → last_listed p a (line ∷ older) ≡ []
     by true of e more = absurd (cc)
-    by false of e more = passed line of ∙ more e
+    by false of e more = sym (passed p a line older of) ∙ more e

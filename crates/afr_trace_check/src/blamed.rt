@@ -1,7 +1,7 @@
 //! Whether a post-op accuses only those that missed its operation.
-ghost use Rattle.std.specs.Prelude.{◌≡◌, ◌↔◌, ◌||◌, ◌<◌, ◌≤◌, Bool, true, false, None, List, [], length, reverse, if◌then◌else◌};
+ghost use Rattle.std.specs.Prelude.{◌≡◌, ◌↔◌, ◌&&◌, ◌||◌, ◌<◌, ◌≤◌, Bool, true, false, None, List, [], length, reverse, if◌then◌else◌};
 ghost use Rattle.std.specs.Option.{option_copied};
-ghost use Rattle.afr_base.specs.Bricks.{same};
+ghost use Rattle.afr_base.specs.Bricks.{below, is_nothing, member, minus, same};
 ghost use Rattle.afr_base.specs.Kinds.{same_kind};
 ghost use Rattle.afr_lines.specs.Areas.{kind_for};
 ghost use Rattle.afr_lines.specs.Log.{change_of};
@@ -136,6 +136,21 @@ fn is_position(position: Option<u32>, attempt: u32) -> bool
     }
 }
 
+/// Whether the last attempt of the present work stands at a position.
+fn is_begun(log: &[Line], a: ActorId, attempt: u32) -> bool
+    requires { length log.now < 2147483648 }
+    ensures { result ≡ is_position (begun_by (work a.0 (reverse log.now))) attempt }
+{
+    is_position(begun_by(log, a), attempt)
+}
+
+/// Whether it is of this object and kind.
+fn is_its_change(log: &[Line], a: ActorId, g: Gfid, kind: Kind) -> bool
+    ensures { result ≡ is_change_of (change_by (work a.0 (reverse log.now))) g kind }
+{
+    is_change_of(change_by(log, a), g, kind)
+}
+
 // ---- phases
 
 fn is_done(told: Told) -> bool
@@ -198,6 +213,15 @@ fn posting_by(log: &[Line], a: ActorId) -> BrickSet
         bricks = posting_more(a, &log[position], bricks);
     }
     bricks
+}
+
+/// Whether a brick was asked for it.
+fn was_closed(log: &[Line], a: ActorId, b: BrickId) -> bool
+    requires known { AreKnown (reverse log.now) }
+    requires brick { b.0 < 5 }
+    ensures { result ≡ member (among posting (work a.0 (reverse log.now))) b.0 }
+{
+    posting_by(log, a).has(b)
 }
 
 fn applied(bricks: BrickSet, line: &Line) -> BrickSet
@@ -326,6 +350,14 @@ fn missing_by(log: &[Line], a: ActorId, g: Gfid) -> BrickSet
     bricks
 }
 
+/// Whether all of some bricks did.
+fn are_missing(log: &[Line], a: ActorId, g: Gfid, bricks: BrickSet) -> bool
+    requires { AreKnown (reverse log.now) }
+    ensures { result ≡ is_nothing (minus bricks (among (missing g) (since locks_any (work a.0 (reverse log.now))))) }
+{
+    bricks.minus(missing_by(log, a, g)).is_empty()
+}
+
 // ---- post-ops
 
 fn suffices(shape: Shape, kind: Kind, looked: &Looked, bricks: BrickSet) -> bool
@@ -340,6 +372,28 @@ fn same(one: BrickSet, other: BrickSet) -> bool
     ensures { result ≡ same one other }
 {
     one == other
+}
+
+/// Whether these are all bricks but those that did the operation.
+fn are_others(n: u8, did: BrickSet, bricks: BrickSet) -> bool
+    requires { n ≤ 5 }
+    ensures { result ≡ same bricks (minus (below n) did) }
+{
+    same(bricks, BrickSet::all(n).minus(did))
+}
+
+fn are_all(
+    begun: bool,
+    of_it: bool,
+    once: bool,
+    done: bool,
+    enough: bool,
+    others: bool,
+    why: bool,
+) -> bool
+    ensures { result ≡ (begun && of_it && once && done && enough && others && why) }
+{
+    begun && of_it && once && done && enough && others && why
 }
 
 /// Whether a post-op is of its work's attempt and the first at its brick, is asked where the operation was done, which is at a majority
@@ -362,14 +416,14 @@ fn is_blaming(
 {
     let did = applied_by(log, a);
     let looked = looked_by(log, a, false, g);
-    let begun = is_position(begun_by(log, a), attempt);
-    let of_it = is_change_of(change_by(log, a), g, kind);
-    let asked = posting_by(log, a).has(b);
+    let begun = is_begun(log, a, attempt);
+    let of_it = is_its_change(log, a, g, kind);
+    let closed = was_closed(log, a, b);
     let done = did.has(b);
     let enough = suffices(plan.shape, kind, &looked, did);
-    let others = same(missed, BrickSet::all(plan.shape.n).minus(did));
-    let why = missed.minus(missing_by(log, a, g)).is_empty();
-    begun && of_it && !asked && done && enough && others && why
+    let others = are_others(plan.shape.n, did, missed);
+    let why = are_missing(log, a, g, missed);
+    are_all(begun, of_it, !closed, done, enough, others, why)
 }
 
 /// Whether a request, where it is a post-op, accuses with a cause.

@@ -1,5 +1,5 @@
 //! Whether a line was told what its brick then gives.
-ghost use Rattle.std.specs.Prelude.{◌≡◌, ◌↔◌, ◌<◌, ◌≤◌, suc, true, length, reverse};
+ghost use Rattle.std.specs.Prelude.{◌≡◌, ◌↔◌, ◌&&◌, ◌<◌, ◌≤◌, suc, true, length, reverse};
 ghost use Rattle.afr_model.specs.Honest.{fault_in, faulted, is_live, over_session, requests_to};
 ghost use Rattle.afr_trace_check.specs.Honest.{IsHonestBySums, outcome_by_sums, told_by_sums};
 ghost use Rattle.afr_trace_tally.specs.Tally.{AsksKnown, IsTally};
@@ -62,7 +62,13 @@ fn is_outcome(told: Told, took: bool, outcome: RequestOutcome) -> bool
 {
     let same = same_told(told, outcome.told);
     let likewise = same_flag(took, outcome.took);
-    same && likewise
+    both(same, likewise)
+}
+
+fn both(one: bool, other: bool) -> bool
+    ensures { result ≡ (one && other) }
+{
+    one && other
 }
 
 fn same_flag(one: bool, other: bool) -> bool

@@ -4,7 +4,7 @@ ghost use Rattle.afr_base.specs.declared.ids.Gfid.{Gfid};
 ghost use Rattle.afr_base.specs.declared.ids.Kind.{Kind};
 ghost use Rattle.afr_base.specs.declared.ids.ActorId.{ActorId};
 ghost use Rattle.afr_lines.specs.Areas.{object_of_area};
-ghost use Rattle.afr_choice.specs.Looks.{no_looks};
+ghost use Rattle.afr_choice.specs.Looks.{no_looks, with_look, without_look};
 ghost use Rattle.afr_lines.specs.Work.{is_end, is_of, work};
 ghost use Rattle.afr_lines.specs.declared.line.Line.{Line};
 ghost use Rattle.afr_model.specs.Healing.{is_border};
@@ -162,12 +162,30 @@ fn look_shows(b: BrickId, told: Told, looked: Looked) -> Looked
     requires { b.0 < 5 }
     ensures { result ≡ look_shows b.0 told looked }
 {
-    let mut looked = looked;
     match told {
-        Told::Seen(view) => looked.note(b, Some(view)),
-        Told::NoObject => looked.note(b, None),
-        _ => looked.lose(b),
+        Told::Seen(view) => noted(looked, b, Some(view)),
+        Told::NoObject => noted(looked, b, None),
+        _ => lost(looked, b),
     }
+}
+
+/// A brick showed what it has.
+fn noted(looked: Looked, b: BrickId, view: Option<View>) -> Looked
+    requires { b.0 < 5 }
+    ensures { result ≡ with_look b.0 view looked }
+{
+    let mut looked = looked;
+    looked.note(b, view);
+    looked
+}
+
+/// A brick didn't show what it has.
+fn lost(looked: Looked, b: BrickId) -> Looked
+    requires { b.0 < 5 }
+    ensures { result ≡ without_look b.0 looked }
+{
+    let mut looked = looked;
+    looked.lose(b);
     looked
 }
 
