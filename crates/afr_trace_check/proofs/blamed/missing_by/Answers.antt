@@ -14,8 +14,8 @@ pub loop-position-preserved : goal.loop-position-preserved
 loop-position-preserved c = record {
   locked =
       c.locked_more-locked.ensures
-      ∙ work_next (has locks_any) (λ line older was. locks_any line || was) (λ line older w. refl) c.args.a.0 c.args.log.now c.loop-position.position c.index-log-position-2.result c.loop-position.locked c.loop-position-test.true
-      c.index-log-position-2.is c.loop-position.invariant.locked;
+      ∙ work_next (has locks_any) (λ line older was. locks_any line || was) (λ line older w. refl) c.args.a.0 c.args.log.now c.loop-position.position c.index-log-position-in-loop-position.result c.loop-position.locked c.loop-position-test.true
+      c.index-log-position-in-loop-position.is c.loop-position.invariant.locked;
   bricks =
       c.missing_more-bricks.ensures
       ∙ missing_next c.args.g c.args.a.0 c.args.log.now c.loop-position.position c.index-log-position.result c.loop-position.locked c.loop-position.bricks c.loop-position-test.true c.index-log-position.is
