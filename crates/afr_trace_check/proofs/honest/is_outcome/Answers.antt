@@ -5,4 +5,4 @@ pub returns : goal.returns
 returns c =
     rw (← c.outcome.view_is)
     (both_same c.args.told c.args.took (record { told = c.outcome.inside.told; took = c.outcome.inside.took }) c.same_told-same.result c.same_flag-likewise.result c.both.result c.both.ensures c.same_told-same.ensures
-      c.same_flag-likewise.ensures)
+    c.same_flag-likewise.ensures)
