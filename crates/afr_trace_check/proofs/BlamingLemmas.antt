@@ -99,20 +99,6 @@ module _ (p : Plan) (attempt : ℕ) (g : Gfid) (kind : Kind) (missed : List ℕ)
   pub blaming_is : (is_blaming p attempt g kind missed b w ≡ true) ↔ IsBlaming p attempt g kind missed b w
   blaming_is = (blames, passes)
 
--- a test that tells whether two sets are the same
-pub same_by : (s t : List ℕ) (b : Bool) → ((b ≡ true) ↔ (s ≡ t)) → b ≡ same s t
-same_by s t b e = by b (same s t) refl refl
-  where
-    by : (u v : Bool) → b ≡ u → same s t ≡ v → b ≡ same s t
-    by true true hb hs = hb ∙ sym hs
-    by false false hb hs = hb ∙ sym hs
-    by true false hb hs =
-        let yes : same s t ≡ true = ap (λ (x : List ℕ). same s x) (sym (e.0 hb)) ∙ same_self s in
-        absurd (cc)
-    by false true hb hs =
-        let yes : b ≡ true = e.1 (same_is s t hs) in
-        absurd (cc)
-
 -- the same seven tests
 pub same_seven : (a a' b b' c c' d d' e e' f f' g g' : Bool) → a ≡ a' → b ≡ b' → c ≡ c' → d ≡ d' → e ≡ e' → f ≡ f' → g ≡ g' → (a && b && c && d && e && f && g) ≡ (a' && b' && c' && d' && e' && f' && g')
 same_seven a a' b b' c c' d d' e e' f f' g g' ha hb hc hd he hf hg = rw (ha, hb, hc, hd, he, hf, hg) refl

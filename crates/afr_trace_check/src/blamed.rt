@@ -1,7 +1,7 @@
 //! Whether a post-op accuses only those that missed its operation.
-ghost use Rattle.std.specs.Prelude.{◌≡◌, ◌↔◌, ◌&&◌, ◌||◌, ◌<◌, ◌≤◌, Bool, true, false, None, List, [], length, reverse, if◌then◌else◌};
+ghost use Rattle.std.specs.Prelude.{◌≡◌, ◌↔◌, ◌&&◌, ◌||◌, ◌<◌, ◌≤◌, Bool, true, false, None, List, [], ◌∷◌, length, reverse, if◌then◌else◌};
 ghost use Rattle.std.specs.Option.{option_copied};
-ghost use Rattle.afr_base.specs.Bricks.{below, is_nothing, member, minus, same};
+ghost use Rattle.afr_base.specs.Bricks.{below, is_nothing, lowest, member, minus, same};
 ghost use Rattle.afr_base.specs.Kinds.{same_kind};
 ghost use Rattle.afr_lines.specs.Areas.{kind_for};
 ghost use Rattle.afr_lines.specs.Log.{change_of};
@@ -14,6 +14,7 @@ ghost use Rattle.afr_model.specs.Standing.{change_after, change_by, locks_any, s
 ghost use Rattle.afr_trace_check.specs.Blaming.{is_blaming, is_change_of, is_position};
 ghost use Rattle.afr_trace_tally.specs.Tally.{AreKnown, AsksKnown};
 
+use crate::honest::both;
 use crate::showing::looked_by;
 use crate::told::object_of;
 use afr_base::{ActorId, BrickId, BrickSet, Gfid, Kind, Shape};
@@ -367,11 +368,31 @@ fn suffices(shape: Shape, kind: Kind, looked: &Looked, bricks: BrickSet) -> bool
     bricks.has_quorum(shape.n) && !good(&shape, looked, kind).common(bricks).is_empty()
 }
 
-#[tactic(auto, using(crate::proofs::BlamingLemmas::same_by))]
+/// A set without its lowest brick. How many bricks it has shows that it has none twice.
+fn rest(bricks: BrickSet, b: BrickId) -> BrickSet
+    requires small { b.0 < 5 }
+    requires some { is_nothing bricks ≡ false }
+    requires first { b.0 ≡ lowest bricks }
+    ensures { bricks ≡ b.0 ∷ result }
+{
+    let _count = bricks.count();
+    bricks.without(b)
+}
+
+/// Whether two sets are the same: each has the same lowest brick, and the same rest.
 fn same(one: BrickSet, other: BrickSet) -> bool
     ensures { result ≡ same one other }
 {
-    one == other
+    if one.is_empty() {
+        return other.is_empty();
+    }
+    if other.is_empty() {
+        return false;
+    }
+    let b = one.lowest();
+    let c = other.lowest();
+    let more = same(rest(one, b), rest(other, c));
+    both(b == c, more)
 }
 
 /// Whether these are all bricks but those that did the operation.

@@ -65,7 +65,7 @@ fn is_outcome(told: Told, took: bool, outcome: RequestOutcome) -> bool
     both(same, likewise)
 }
 
-fn both(one: bool, other: bool) -> bool
+pub(crate) fn both(one: bool, other: bool) -> bool
     ensures { result ≡ (one && other) }
 {
     one && other
