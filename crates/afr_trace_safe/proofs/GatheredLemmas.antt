@@ -1,5 +1,5 @@
 -- The attempts on an object, gathered from the newest line on.
-use Rattle.std.proofs.Common.{◌≡◌, ◌∙◌, ℕ, zero, suc, ◌+◌, ◌-◌, ◌<◌, ◌≤◌, ◌==◌, Bool, true, false, List, [], ◌∷◌, ◌++◌, length, refl, sym, ap, arith, append_assoc, Option, Some, None, slice_get, if◌then◌else◌, ◌⊎◌, inl, inr}
+use Rattle.std.proofs.Common.{◌≡◌, ◌∙◌, ℕ, zero, suc, ◌+◌, ◌-◌, ◌<◌, ◌≤◌, ◌==◌, Bool, true, false, List, [], ◌∷◌, ◌++◌, length, refl, sym, ap, arith, append-nil, append_assoc, Option, Some, None, slice_get, if◌then◌else◌, ◌⊎◌, inl, inr}
 use Rattle.std.proofs.lemmas.Option.{same_Some}
 use Rattle.afr_base.specs.declared.ids.Gfid.{Gfid}
 use Rattle.afr_lines.specs.Log.{change_at}
@@ -7,10 +7,6 @@ use Rattle.afr_lines.specs.declared.line.Line.{Line}
 use Rattle.afr_trace_safe.specs.Acknowledged.{is_acknowledged}
 use Rattle.afr_trace_safe.specs.Attempts.{attempt_at, attempts_on, is_on}
 use Rattle.afr_trace_safe.specs.declared.attempts.Attempt.{Attempt}
-
-no_more : {A : Type 0} (xs : List A) → xs ++ [] ≡ xs
-no_more [] = refl
-no_more (x ∷ xs) = ap (λ (t : List _). x ∷ t) (no_more xs)
 
 -- one position more
 pub gathers : (log : List Line) (g : Gfid) (n i : ℕ) (was now : List Attempt) → i < n → now ≡ was ++ attempt_at log g (n - 1 - i) → was ++ attempts_on log g (n - i) ≡ attempts_on log g n
@@ -25,7 +21,7 @@ pub gathered : (log : List Line) (g : Gfid) (n i : ℕ) (xs : List Attempt) → 
 gathered log g n i xs high h =
     let none : n - i ≡ 0 = omega arith in
     let all : xs ++ attempts_on log g 0 ≡ attempts_on log g n = rw none at h in
-    sym (no_more xs) ∙ all
+    sym (append-nil xs) ∙ all
 
 -- each of them is on the object
 pub listed_on : (log : List Line) (g : Gfid) (n j : ℕ) (x : Attempt) → slice_get (attempts_on log g n) j ≡ Some x → is_on g (change_at x.position log) ≡ true

@@ -25,18 +25,18 @@ use Rattle.afr_trace_safe.specs.Judged.{IsObjectSafe}
 
 -- ---- objects that a brick gets
 -- an object that the brick lacks
-abbrev pub new_object : Plan → List Line → ℕ → Gfid → List Gfid
-new_object p log b g = if has_object p log g b then [] else g ∷ []
+abbrev pub lacked : Plan → List Line → ℕ → Gfid → List Gfid
+lacked p log b g = if has_object p log g b then [] else g ∷ []
 
 -- those that some names lead to
-abbrev pub new_objects : Plan → List Line → ℕ → List (NameId × Entry) → List Gfid
-new_objects p log b [] = []
-new_objects p log b (x ∷ names) = new_object p log b x.1.gfid ++ new_objects p log b names
+abbrev pub all_lacked : Plan → List Line → ℕ → List (NameId × Entry) → List Gfid
+all_lacked p log b [] = []
+all_lacked p log b (x ∷ names) = lacked p log b x.1.gfid ++ all_lacked p log b names
 
 -- those that the names lead to that a read line showed
 abbrev pub read_objects : Plan → List Line → ℕ → Option ℕ → List Gfid
 read_objects p log b None = []
-read_objects p log b (Some k) = new_objects p log b (names_shown (held_before p log) k (from_oldest k log))
+read_objects p log b (Some k) = all_lacked p log b (names_shown (held_before p log) k (from_oldest k log))
 
 -- the same of some read lines
 abbrev pub all_read_objects : Plan → List Line → ℕ → List (Option ℕ) → List Gfid
@@ -45,7 +45,7 @@ all_read_objects p log b (read ∷ reads) = read_objects p log b read ++ all_rea
 
 -- those that a change makes
 abbrev pub made_objects : Plan → List Line → ℕ → Change → List Gfid
-made_objects p log b (Make dir name g what) = new_object p log b g
+made_objects p log b (Make dir name g what) = lacked p log b g
 made_objects p log b change = []
 
 -- those that a repair makes

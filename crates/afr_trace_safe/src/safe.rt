@@ -29,9 +29,6 @@ pub fn is_safe(
     requires was { WasSafe plan.now (reverse log.now) objects.now }
     ensures { IfOk result (λ safe. (safe ≡ true) ↔ IsSafe plan.now (reverse log.now)) }
 {
-    if log.is_empty() {
-        return Ok(true);
-    }
     let safe = are_objects_safe(alloc, first, tally, plan, log, objects)?;
     Ok(safe)
 }

@@ -2,7 +2,7 @@
 ghost use Rattle.std.specs.Prelude.{◌≡◌, ◌<◌, ◌++◌, ◌∷◌, [], Some, IfOk, OnOk, reverse};
 ghost use Rattle.std.specs.Option.{option_copied};
 ghost use Rattle.afr_object.specs.Repairs.{repaired};
-ghost use Rattle.afr_trace_safe.specs.Touched.{all_read_objects, asked_objects, begun_more, begun_object, begun_objects, changed_objects, ended_objects, made_objects, named_objects, new_object, new_objects, read_objects, touched};
+ghost use Rattle.afr_trace_safe.specs.Touched.{all_read_objects, asked_objects, begun_more, begun_object, begun_objects, changed_objects, ended_objects, made_objects, named_objects, lacked, all_lacked, read_objects, touched};
 ghost use Rattle.afr_trace_tally.specs.Tally.{AsksKnown, IsTally};
 
 use crate::cell::object_of;
@@ -33,7 +33,7 @@ fn push_new(
 ) -> Result<(), NoMemory>
     requires tally { IsTally plan.now (reverse log.now) tally.now }
     requires brick { b.0 < 5 }
-    ensures { OnOk result (objects.new.items ≡ objects.old.items ++ new_object plan.now (reverse log.now) b.0 g) }
+    ensures { OnOk result (objects.new.items ≡ objects.old.items ++ lacked plan.now (reverse log.now) b.0 g) }
 {
     if tally.has_object(plan, log, b, g) {
         return Ok(());
@@ -52,7 +52,7 @@ fn push_named(
 ) -> Result<(), NoMemory>
     requires tally { IsTally plan.now (reverse log.now) tally.now }
     requires brick { b.0 < 5 }
-    ensures { OnOk result (objects.new.items ≡ objects.old.items ++ new_objects plan.now (reverse log.now) b.0 names.now) }
+    ensures { OnOk result (objects.new.items ≡ objects.old.items ++ all_lacked plan.now (reverse log.now) b.0 names.now) }
 {
     for x in names {
         push_new(objects, tally, plan, log, b, x.1.gfid)?;
@@ -94,8 +94,8 @@ fn push_all_read(
     requires brick { b.0 < 5 }
     ensures { OnOk result (objects.new.items ≡ objects.old.items ++ all_read_objects plan.now (reverse log.now) b.0 reads.now) }
 {
-    for i in 0..reads.len() {
-        push_read(objects, alloc, tally, plan, log, b, reads[i])?;
+    for read in reads {
+        push_read(objects, alloc, tally, plan, log, b, *read)?;
     }
     Ok(())
 }
