@@ -36,7 +36,7 @@ use Rattle.afr_trace_safe.proofs.SameLemmas.{value_self}
 use Rattle.afr_trace_safe.proofs.StandsLemmas.{current_is, untold}
 
 -- each of some attempts has a fact
-abbrev EachAttempt : (Attempt → Type 0) → List Attempt → Type 0
+abbrev pub EachAttempt : (Attempt → Type 0) → List Attempt → Type 0
 EachAttempt P xs = (j : ℕ) (x : Attempt) → slice_get xs j ≡ Some x → P x
 
 -- ---- bytes past every end

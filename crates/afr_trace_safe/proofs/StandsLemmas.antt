@@ -17,7 +17,7 @@ use Rattle.afr_plan.specs.declared.plan.Plan.{Plan}
 use Rattle.afr_model.specs.Attempts.{IsAcknowledged, IsCurrent, IsNoOlder, Left, NoneAfter, NoneAtAll, Opening, touches_if}
 use Rattle.afr_model.specs.Cells.{Attr, Byte, Cell, Name, Value, leaves, object_of_cell, touches, value_of}
 use Rattle.afr_trace_safe.specs.Acknowledged.{is_acknowledged}
-use Rattle.afr_trace_safe.specs.Attempts.{attempts_on, is_on, or_older, stands, verdict}
+use Rattle.afr_trace_safe.specs.Attempts.{attempt_by, attempts_on, is_on, or_older, stands, verdict}
 use Rattle.afr_trace_safe.specs.Same.{same_value}
 use Rattle.afr_trace_safe.specs.declared.attempts.Attempt.{Attempt}
 use Rattle.afr_trace_safe.proofs.AcknowledgedLemmas.{acknowledged_is, is_acknowledged_of}
@@ -81,7 +81,7 @@ by_positions log g cell v opening e zero = refl
 by_positions log g cell v opening e (suc k) = by (is_on g (change_at k log)) refl (by_positions log g cell v opening e k)
   where
     by : (on : Bool) → is_on g (change_at k log) ≡ on → stands log cell v opening (attempts_on log g k) ≡ stands_by log cell v opening k
-        → stands log cell v opening ((if on then (record { position = k; acknowledged = is_acknowledged log k }) ∷ [] else []) ++ attempts_on log g k)
+        → stands log cell v opening ((if on then attempt_by log k ∷ [] else []) ++ attempts_on log g k)
         ≡ or_older (verdict (change_at k log) (is_acknowledged log k) cell v) (stands_by log cell v opening k)
     by true h ih = ap (or_older (verdict (change_at k log) (is_acknowledged log k) cell v)) ih
     by false h ih =

@@ -16,9 +16,13 @@ abbrev pub is_on : Gfid → Option Change → Bool
 is_on g None = false
 is_on g (Some change) = (object_of change).0 == g.0
 
--- the attempt at position k, where it is on the object
+-- the attempt at position k
+abbrev pub attempt_by : List Line → ℕ → Attempt
+attempt_by log k = record { position = k; acknowledged = is_acknowledged log k }
+
+-- the same, where it is on the object
 abbrev pub attempt_at : List Line → Gfid → ℕ → List Attempt
-attempt_at log g k = if is_on g (change_at k log) then (record { position = k; acknowledged = is_acknowledged log k }) ∷ [] else []
+attempt_at log g k = if is_on g (change_at k log) then attempt_by log k ∷ [] else []
 
 -- the attempts on the object at positions below n, the newest first
 abbrev pub attempts_on : List Line → Gfid → ℕ → List Attempt
