@@ -1,6 +1,7 @@
 pub mod BlamingLemmas
 pub mod FillingLemmas
 pub mod OutcomeLemmas
+pub mod RoomLemmas
 pub mod SameLemmas
 pub mod ShownLemmas
 pub mod ToldLemmas
