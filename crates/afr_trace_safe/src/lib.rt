@@ -9,8 +9,8 @@ mod current;
 mod kinds;
 mod objects;
 mod safe;
-mod touched;
+mod touching;
 mod value;
 
 pub use safe::is_safe;
-pub use touched::touched;
+pub use touching::touched;
