@@ -2,6 +2,7 @@ pub mod AcknowledgedLemmas
 pub mod AccusedLemmas
 pub mod CopyLemmas
 pub mod GatheredLemmas
+pub mod LoopLemmas
 pub mod OutsideLemmas
 pub mod PushLemmas
 pub mod QuorumLemmas

@@ -152,13 +152,13 @@ three_pass true false c h = absurd (cc h)
 three_pass false b c h = absurd (cc h)
 
 -- what holds where each of three tests passes
-pub all_tests : (one two three yes : Bool) (P Q R S : Type 0) → yes ≡ (one && two && three) → (one ≡ true) ↔ P → (two ≡ true) ↔ Q → (three ≡ true) ↔ R → (P → Q → R → S) → (S → P) → (S → Q) → (S → R) → (yes ≡ true) ↔ S
-all_tests one two three yes P Q R S e a b c to fp fq fr = (forth, back)
+pub all_tests : (one two three flag : Bool) (P Q R S : Type 0) → flag ≡ (one && two && three) → (one ≡ true) ↔ P → (two ≡ true) ↔ Q → (three ≡ true) ↔ R → (P → Q → R → S) → (S → P) → (S → Q) → (S → R) → (flag ≡ true) ↔ S
+all_tests one two three flag P Q R S e a b c to fp fq fr = (forth, back)
   where
-    forth : yes ≡ true → S
+    forth : flag ≡ true → S
     forth h = let t = three_pass one two three (sym e ∙ h) in to (a.0 t.0) (b.0 t.1) (c.0 t.2)
 
-    back : S → yes ≡ true
+    back : S → flag ≡ true
     back s = e ∙ rw (a.1 (fp s), b.1 (fq s), c.1 (fr s)) refl
 
 -- ---- on one brick
@@ -177,9 +177,9 @@ module _ (p : Plan) (log : List Line) (b : ℕ) (g : Gfid) (n : ℕ) (attempts :
       low : (m : ℕ) → m ≤ end → m ≤ i
       low m h = omega (arith, h, high)
 
-  pub bytes_all : (end : ℕ) (yes : Bool) → length (content_in (copy_at g ((plain_tables p log).now b))) ≤ end → length (content_in (copy_at g ((plain_tables p []).now b))) ≤ end
-      → EachAttempt (λ x. end_of (change_at x.position log) ≤ end) attempts → (yes ≡ true) ↔ AreBytesCurrent p log b g end → (yes ≡ true) ↔ AllCurrent p log b g Bytes
-  bytes_all end yes here start each told = (λ e i. by i (cases_lt i end) (told.0 e), λ h. told.1 (λ i low. h i))
+  pub bytes_all : (end : ℕ) (flag : Bool) → length (content_in (copy_at g ((plain_tables p log).now b))) ≤ end → length (content_in (copy_at g ((plain_tables p []).now b))) ≤ end
+      → EachAttempt (λ x. end_of (change_at x.position log) ≤ end) attempts → (flag ≡ true) ↔ AreBytesCurrent p log b g end → (flag ≡ true) ↔ AllCurrent p log b g Bytes
+  bytes_all end flag here start each told = (λ e i. by i (cases_lt i end) (told.0 e), λ h. told.1 (λ i low. h i))
     where
       by : (i : ℕ) → (i < end) ⊎ (end ≤ i) → AreBytesCurrent p log b g end → IsCurrent p log b (Byte g i)
       by i (inl low) below = below i low
@@ -237,17 +237,17 @@ module _ (p : Plan) (log : List Line) (b : ℕ) (g : Gfid) (n : ℕ) (attempts :
   on_it : (j : ℕ) (x : Attempt) → slice_get attempts j ≡ Some x → is_on g (change_at x.position log) ≡ true
   on_it j x e = listed_on log g n j x (ap (λ (xs : List Attempt). slice_get xs j) (sym all) ∙ e)
 
-  pub attrs_all : (here start : List (KeyId × ValueId)) (one two three yes : Bool) → here ≡ attrs_in (copy_at g ((plain_tables p log).now b)) → start ≡ attrs_in (copy_at g ((plain_tables p []).now b)) → yes ≡ (one && two && three)
-      → (one ≡ true) ↔ AreKeysCurrent p log b g here → (two ≡ true) ↔ AreKeysCurrent p log b g start → (three ≡ true) ↔ AreTouchedCurrent p log b Attrs attempts → (yes ≡ true) ↔ AllCurrent p log b g Attrs
-  attrs_all here start one two three yes eh es e x y z =
-      all_tests one two three yes (AreKeysCurrent p log b g here) (AreKeysCurrent p log b g start) (AreTouchedCurrent p log b Attrs attempts) (AllCurrent p log b g Attrs) e x y z (λ u v w key. attr_current key here start eh es u v w)
+  pub attrs_all : (here start : List (KeyId × ValueId)) (one two three flag : Bool) → here ≡ attrs_in (copy_at g ((plain_tables p log).now b)) → start ≡ attrs_in (copy_at g ((plain_tables p []).now b)) → flag ≡ (one && two && three)
+      → (one ≡ true) ↔ AreKeysCurrent p log b g here → (two ≡ true) ↔ AreKeysCurrent p log b g start → (three ≡ true) ↔ AreTouchedCurrent p log b Attrs attempts → (flag ≡ true) ↔ AllCurrent p log b g Attrs
+  attrs_all here start one two three flag eh es e x y z =
+      all_tests one two three flag (AreKeysCurrent p log b g here) (AreKeysCurrent p log b g start) (AreTouchedCurrent p log b Attrs attempts) (AllCurrent p log b g Attrs) e x y z (λ u v w key. attr_current key here start eh es u v w)
       (λ h j k f. h k.0) (λ h j k f. h k.0)
       (λ h j k f cell t. let found = key_of_touched g (change_at k.position log) cell (on_it j k f) t in subst (λ (c : Cell). IsCurrent p log b c) found.1 (h found.0))
 
-  pub names_all : (here start : List (NameId × Entry)) (one two three yes : Bool) → here ≡ names_in (copy_at g ((plain_tables p log).now b)) → start ≡ names_in (copy_at g ((plain_tables p []).now b)) → yes ≡ (one && two && three)
-      → (one ≡ true) ↔ AreNamesCurrent p log b g here → (two ≡ true) ↔ AreNamesCurrent p log b g start → (three ≡ true) ↔ AreTouchedCurrent p log b Names attempts → (yes ≡ true) ↔ AllCurrent p log b g Names
-  names_all here start one two three yes eh es e x y z =
-      all_tests one two three yes (AreNamesCurrent p log b g here) (AreNamesCurrent p log b g start) (AreTouchedCurrent p log b Names attempts) (AllCurrent p log b g Names) e x y z (λ u v w name. name_current name here start eh es u v w)
+  pub names_all : (here start : List (NameId × Entry)) (one two three flag : Bool) → here ≡ names_in (copy_at g ((plain_tables p log).now b)) → start ≡ names_in (copy_at g ((plain_tables p []).now b)) → flag ≡ (one && two && three)
+      → (one ≡ true) ↔ AreNamesCurrent p log b g here → (two ≡ true) ↔ AreNamesCurrent p log b g start → (three ≡ true) ↔ AreTouchedCurrent p log b Names attempts → (flag ≡ true) ↔ AllCurrent p log b g Names
+  names_all here start one two three flag eh es e x y z =
+      all_tests one two three flag (AreNamesCurrent p log b g here) (AreNamesCurrent p log b g start) (AreTouchedCurrent p log b Names attempts) (AllCurrent p log b g Names) e x y z (λ u v w name. name_current name here start eh es u v w)
       (λ h j k f. h k.0) (λ h j k f. h k.0)
       (λ h j k f cell t. let found = name_of_touched g (change_at k.position log) cell (on_it j k f) t in subst (λ (c : Cell). IsCurrent p log b c) found.1 (h found.0))
 
@@ -262,5 +262,5 @@ pub not_judged : (p : Plan) (log : List Line) (g : Gfid) (b : ℕ) (kind : Kind)
 not_judged p log g b kind judged e h = (λ k j. let no : is_judged p log g kind b ≡ false = sym e ∙ h in absurd (cc (j, no)), λ k. refl)
 
 -- one that is has to be current
-pub if_judged : (p : Plan) (log : List Line) (g : Gfid) (b : ℕ) (kind : Kind) (judged yes : Bool) → judged ≡ is_judged p log g kind b → judged ≡ true → (yes ≡ true) ↔ AllCurrent p log b g kind → (yes ≡ true) ↔ IsKindSafe p log g b kind
-if_judged p log g b kind judged yes e h told = (λ k j. told.0 k, λ k. told.1 (k (sym e ∙ h)))
+pub if_judged : (p : Plan) (log : List Line) (g : Gfid) (b : ℕ) (kind : Kind) (judged flag : Bool) → judged ≡ is_judged p log g kind b → judged ≡ true → (flag ≡ true) ↔ AllCurrent p log b g kind → (flag ≡ true) ↔ IsKindSafe p log g b kind
+if_judged p log g b kind judged flag e h told = (λ k j. told.0 k, λ k. told.1 (k (sym e ∙ h)))

@@ -1,21 +1,18 @@
 -- Objects that are put at the end of a list, one place or one line more.
-use Rattle.std.proofs.Common.{◌≡◌, ◌∙◌, ℕ, suc, ◌+◌, ◌<◌, ◌≤◌, List, [], ◌∷◌, ◌++◌, length, drop, take, reverse, get_or, refl, sym, ap, arith, add-one, append_assoc, append-nil, drop-cons}
+use Rattle.std.proofs.Common.{◌≡◌, ◌∙◌, ℕ, suc, ◌+◌, ◌<◌, ◌≤◌, List, [], ◌∷◌, ◌++◌, length, drop, take, reverse, get_or, sym, ap, arith, add-one, append_assoc, drop-cons}
 use Rattle.std.proofs.lemmas.List.{reverse-append, take_all}
 use Rattle.std.proofs.Math.Seq.{take-suc}
 use Rattle.afr_base.specs.declared.ids.Gfid.{Gfid}
 use Rattle.afr_lines.specs.declared.line.Line.{Line}
 use Rattle.afr_trace_safe.specs.Touched.{begun_more, begun_objects}
 
--- from one place on
-next_of : {A : Type 0} (xs : List A) (i : ℕ) (x : A) → i < length xs → x ≡ get_or xs i x → drop i xs ≡ x ∷ drop (i + 1) xs
-next_of {A} xs i x low e = drop-cons xs i x low ∙ ap (λ (k : ℕ). get_or xs i x ∷ drop k xs) (sym (add-one i)) ∙ ap (λ (y : A). y ∷ drop (i + 1) xs) (sym e)
-
 -- what stands for one item more
-pub pushed : {A : Type 0} (f : A → List Gfid) (F : List A → List Gfid) → ((x : A) (xs : List A) → F (x ∷ xs) ≡ f x ++ F xs) → (xs : List A) (i : ℕ) (x : A) (was now all : List Gfid) → i < length xs → x ≡ get_or xs i x → now ≡ was ++ f x
+pub pushed : {A : Type 0} (f : A → List Gfid) (F : List A → List Gfid) → ((x : A) (xs : List A) → F (x ∷ xs) ≡ f x ++ F xs) → (xs : List A) (i : ℕ) (d : A) (was now all : List Gfid) → i < length xs → now ≡ was ++ f (get_or xs i d)
     → was ++ F (drop i xs) ≡ all → now ++ F (drop (i + 1) xs) ≡ all
-pushed {A} f F step xs i x was now all low e more h =
-    let cut : F (drop i xs) ≡ f x ++ F (drop (i + 1) xs) = ap F (next_of xs i x low e) ∙ step x (drop (i + 1) xs) in
-    let rest : was ++ (f x ++ F (drop (i + 1) xs)) ≡ all = ap (λ (t : List Gfid). was ++ t) (sym cut) ∙ h in
+pushed {A} f F step xs i d was now all low more h =
+    let next : drop i xs ≡ get_or xs i d ∷ drop (i + 1) xs = drop-cons xs i d low ∙ ap (λ (k : ℕ). get_or xs i d ∷ drop k xs) (sym (add-one i)) in
+    let cut : F (drop i xs) ≡ f (get_or xs i d) ++ F (drop (i + 1) xs) = ap F next ∙ step (get_or xs i d) (drop (i + 1) xs) in
+    let rest : was ++ (f (get_or xs i d) ++ F (drop (i + 1) xs)) ≡ all = ap (λ (t : List Gfid). was ++ t) (sym cut) ∙ h in
     rw (more, append_assoc) rest
 
 -- ---- lines

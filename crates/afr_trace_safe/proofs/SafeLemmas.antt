@@ -203,9 +203,9 @@ current_later p l older b cell out current = by current
     by (Left q change e t h none) = Left q change (stays_at l older q change e) t (same ∙ h) (λ k a u. let w = acknowledged_before p l older (object_of_cell cell) k cell refl out a u in none k w.0 w.1)
 
 all_later : (p : Plan) (l : Line) (older : List Line) (b : ℕ) (g : Gfid) (kind : Kind) → lists (touched p l older) g.0 ≡ false → AllCurrent p older b g kind → AllCurrent p (l ∷ older) b g kind
-all_later p l older b g Bytes out all i = current_later p l older b (Byte g i) out (all i)
-all_later p l older b g Attrs out all key = current_later p l older b (Attr g key) out (all key)
-all_later p l older b g Names out all name = current_later p l older b (Name g name) out (all name)
+all_later p l older b g Bytes out all = λ i. current_later p l older b (Byte g i) out (all i)
+all_later p l older b g Attrs out all = λ key. current_later p l older b (Attr g key) out (all key)
+all_later p l older b g Names out all = λ name. current_later p l older b (Name g name) out (all name)
 
 -- ---- safe logs
 -- no attempt comes before the first line, so all is as at the start
@@ -226,9 +226,9 @@ safe_next p l older safe each = each_safe p (l ∷ older) (λ g. by g (lists (to
     by g false e = λ b low kind judged. all_later p l older b g kind e (safe_each p older safe g b low kind (judged_before p l older g kind b e judged))
 
 -- a log is safe exactly where each object is that its last line touches
-pub safe_is : (p : Plan) (log : List Line) (objects : List Gfid) (yes : Bool) → WasSafe p log objects → (yes ≡ true) ↔ AreObjectsSafe p log objects → (yes ≡ true) ↔ IsSafe p log
-safe_is p [] objects yes was told = (λ e. safe_first p, λ safe. told.1 (λ j g e. safe_each p [] safe g))
-safe_is p (l ∷ older) objects yes was told = (
+pub safe_is : (p : Plan) (log : List Line) (objects : List Gfid) (flag : Bool) → WasSafe p log objects → (flag ≡ true) ↔ AreObjectsSafe p log objects → (flag ≡ true) ↔ IsSafe p log
+safe_is p [] objects flag was told = (λ e. safe_first p, λ safe. told.1 (λ j g e. safe_each p [] safe g))
+safe_is p (l ∷ older) objects flag was told = (
   λ e. safe_next p l older was.0 (subst (λ (xs : List Gfid). AreObjectsSafe p (l ∷ older) xs) was.1 (told.0 e)),
   λ safe. told.1 (λ j g e. safe_each p (l ∷ older) safe g),
 )

@@ -105,19 +105,19 @@ below_or_at j k l = grind arith
 
 module _ (log : List Line) (cell : Cell) (v : Value) (opening : Bool) where
   extend : (k : ℕ) → (is_acknowledged log k ≡ true → touches_if (change_at k log) cell ≡ true → ⊥) → Kept log cell v opening k → Kept log cell v opening (suc k)
-  extend k no (First e none) =
-      First e (λ j l a t. elim (below_or_at j k l) as (λ _. ⊥) [ inl s ↦ none j s a t | inr f ↦ no (subst (λ (i : ℕ). is_acknowledged log i ≡ true) f a) (subst (λ (i : ℕ). touches_if (change_at i log) cell ≡ true) f t) ])
-  extend k no (By q change l e t h none) =
+  extend k never (First e none) =
+      First e (λ j l a t. elim (below_or_at j k l) as (λ _. ⊥) [ inl s ↦ none j s a t | inr f ↦ never (subst (λ (i : ℕ). is_acknowledged log i ≡ true) f a) (subst (λ (i : ℕ). touches_if (change_at i log) cell ≡ true) f t) ])
+  extend k never (By q change l e t h none) =
       By q change (omega (arith, l)) e t h
-      (λ j m a u. elim (below_or_at j k m) as (λ _. j ≤ q) [ inl s ↦ none j s a u | inr f ↦ absurd (no (subst (λ (i : ℕ). is_acknowledged log i ≡ true) f a) (subst (λ (i : ℕ). touches_if (change_at i log) cell ≡ true) f u)) ])
+      (λ j m a u. elim (below_or_at j k m) as (λ _. j ≤ q) [ inl s ↦ none j s a u | inr f ↦ absurd (never (subst (λ (i : ℕ). is_acknowledged log i ≡ true) f a) (subst (λ (i : ℕ). touches_if (change_at i log) cell ≡ true) f u)) ])
 
   shrink : (k : ℕ) → ((change : Change) → change_at k log ≡ Some change → touches change cell ≡ true → v ≡ leaves change cell → ⊥) → Kept log cell v opening (suc k) → Kept log cell v opening k
-  shrink k no (First e none) = First e (λ j l a t. none j (omega (arith, l)) a t)
-  shrink k no (By q change l e t h none) = by (below_or_at q k l)
+  shrink k apart (First e none) = First e (λ j l a t. none j (omega (arith, l)) a t)
+  shrink k apart (By q change l e t h none) = by (below_or_at q k l)
     where
       by : (q < k) ⊎ (q ≡ k) → Kept log cell v opening k
       by (inl s) = By q change s e t h (λ j m a u. none j (omega (arith, m)) a u)
-      by (inr f) = absurd (no change (subst (λ (i : ℕ). change_at i log ≡ Some change) f e) t h)
+      by (inr f) = absurd (apart change (subst (λ (i : ℕ). change_at i log ≡ Some change) f e) t h)
 
   -- an acknowledged attempt that left another value lets none stand that is older
   over : (k : ℕ) (change : Change) → change_at k log ≡ Some change → touches change cell ≡ true → same_value v (leaves change cell) ≡ false → is_acknowledged log k ≡ true → Kept log cell v opening (suc k) → ⊥
@@ -183,15 +183,15 @@ module _ (p : Plan) (log : List Line) (b : ℕ) (cell : Cell) (v w : Value) (her
   from_current (Left q change e t h none) = By q change (change_inside q log change e) e t (here ∙ h) (λ k l a u. none k (acknowledged_is log k a) u)
 
 -- a value stands by the attempts on its object exactly where it is current
-pub current_is : (p : Plan) (log : List Line) (b : ℕ) (g : Gfid) (cell : Cell) (v w : Value) (n : ℕ) (attempts : List Attempt) (yes : Bool) → object_of_cell cell ≡ g → n ≡ length log → v ≡ value_of p log b cell → w ≡ value_of p [] b cell
-    → attempts ≡ attempts_on log g n → yes ≡ stands log cell v (same_value v w) attempts → (yes ≡ true) ↔ IsCurrent p log b cell
-current_is p log b g cell v w n attempts yes of len here start all told = (to, from)
+pub current_is : (p : Plan) (log : List Line) (b : ℕ) (g : Gfid) (cell : Cell) (v w : Value) (n : ℕ) (attempts : List Attempt) (flag : Bool) → object_of_cell cell ≡ g → n ≡ length log → v ≡ value_of p log b cell → w ≡ value_of p [] b cell
+    → attempts ≡ attempts_on log g n → flag ≡ stands log cell v (same_value v w) attempts → (flag ≡ true) ↔ IsCurrent p log b cell
+current_is p log b g cell v w n attempts flag of len here start all told = (to, from)
   where
-    by_all : yes ≡ stands_by log cell v (same_value v w) (length log)
+    by_all : flag ≡ stands_by log cell v (same_value v w) (length log)
     by_all = told ∙ ap (stands log cell v (same_value v w)) (all ∙ ap (attempts_on log g) len) ∙ by_positions log g cell v (same_value v w) of (length log)
 
-    to : yes ≡ true → IsCurrent p log b cell
+    to : flag ≡ true → IsCurrent p log b cell
     to e = to_current p log b cell v w here start (to_kept log cell v (same_value v w) (length log) (sym by_all ∙ e))
 
-    from : IsCurrent p log b cell → yes ≡ true
+    from : IsCurrent p log b cell → flag ≡ true
     from c = by_all ∙ from_kept log cell v (same_value v w) (length log) (from_current p log b cell v w here start c)
