@@ -1,9 +1,8 @@
 -- A log is safe exactly where each copy that is good in some majority is current.
-use Rattle.std.proofs.Common.{◌≡◌, ◌∙◌, ◌⊎◌, inl, inr, ℕ, zero, suc, ◌+◌, ◌*◌, ◌<◌, ◌≤◌, ◌==◌, ◌&&◌, ◌||◌, not, nat_lt, Bool, true, false, List, [], ◌∷◌, refl, sym, ap, subst, arith, if◌then◌else◌}
+use Rattle.std.proofs.Common.{◌≡◌, ◌∙◌, ◌⊎◌, inl, inr, ℕ, zero, suc, ◌+◌, ◌*◌, ◌<◌, ◌≤◌, ◌==◌, ◌&&◌, ◌||◌, not, nat_lt, Bool, true, false, List, [], ◌∷◌, refl, sym, ap, arith, if◌then◌else◌}
 use Rattle.std.specs.List.{list_any}
-use Rattle.std.proofs.lemmas.Bool.{eqb-true}
 use Rattle.std.proofs.lemmas.Bool.Decides.{eqb_tells, nat_tests}
-use Rattle.afr_base.specs.Bricks.{IsWithin, and_left, and_right, member}
+use Rattle.afr_base.specs.Bricks.{IsWithin, and_left, member}
 use Rattle.afr_base.specs.Keeping.{keeps}
 use Rattle.afr_base.specs.Majority.{count_below, is_majority, is_most}
 use Rattle.afr_base.specs.SetLemmas.{most_same}
@@ -140,7 +139,7 @@ module _ (p : Plan) (log : List Line) (g : Gfid) (kind : Kind) (b : ℕ) where
       let in_it : member (chosen p.shape.n quiet) b ≡ true = member_chosen p.shape.n quiet b ∙ rw (is_low b p.shape.n low, t.2) refl in (
         chosen_most p.shape.n quiet ∙ t.3,
         four_pass (member (chosen p.shape.n quiet) b) (has_object p log g b) (keeps p.shape kind b) (not (list_any (λ x. accuses p log g kind x b) (chosen p.shape.n quiet))) in_it t.0 t.1
-        (true_not (list_any (λ x. accuses p log g kind x b) (chosen p.shape.n quiet)) (none_chosen p.shape.n (λ x. accuses p log g kind x b))),
+            (true_not (list_any (λ x. accuses p log g kind x b) (chosen p.shape.n quiet)) (none_chosen p.shape.n (λ x. accuses p log g kind x b))),
       )
 
 -- ---- safe logs

@@ -1,8 +1,8 @@
 -- A log that was safe before its last line is safe where each object that the line touches is.
-use Rattle.std.proofs.Common.{◌≡◌, ◌∙◌, ◌↔◌, ◌⊎◌, inl, inr, ℕ, suc, ◌+◌, ◌-◌, ◌<◌, ◌≤◌, ◌==◌, ◌&&◌, ◌||◌, not, nat_lt, Bool, true, false, List, [], ◌∷◌, ◌++◌, Option, Some, None, length, slice_get, refl, sym, ap, subst, arith, if◌then◌else◌}
+use Rattle.std.proofs.Common.{◌≡◌, ◌∙◌, ◌↔◌, ℕ, ◌+◌, ◌-◌, ◌<◌, ◌==◌, ◌&&◌, ◌||◌, not, nat_lt, Bool, true, false, List, [], ◌∷◌, ◌++◌, Option, Some, None, length, refl, sym, ap, subst, arith, if◌then◌else◌}
 use Rattle.std.specs.Prelude.{is_some, option_and_then, slice_index}
 use Rattle.std.proofs.lemmas.Bool.{eqb-true}
-use Rattle.std.proofs.lemmas.Bool.Decides.{eqb_tells, nat_tests}
+use Rattle.std.proofs.lemmas.Bool.Decides.{nat_tests}
 use Rattle.std.proofs.lemmas.Option.{same_Some}
 use Rattle.afr_base.specs.Keeping.{keeps}
 use Rattle.afr_base.specs.Kinds.{same_kind}
@@ -12,7 +12,7 @@ use Rattle.afr_base.specs.declared.ids.Gfid.{Gfid}
 use Rattle.afr_base.specs.declared.ids.Kind.{Kind}
 use Rattle.afr_base.specs.declared.ids.Kind.TheVariants.{Bytes, Attrs, Names}
 use Rattle.afr_object.specs.Object.{Object}
-use Rattle.afr_object.specs.Tables.{copy_at, object_of}
+use Rattle.afr_object.specs.Tables.{object_of}
 use Rattle.afr_object.specs.declared.change.Change.{Change}
 use Rattle.afr_lines.specs.Log.{change_at, change_of, from_oldest}
 use Rattle.afr_lines.specs.Work.{is_end, is_of, reply_by}
@@ -21,18 +21,16 @@ use Rattle.afr_lines.specs.declared.line.Line.TheVariants as line
 use Rattle.afr_lines.specs.declared.reply.Good.{Good}
 use Rattle.afr_lines.specs.declared.reply.Reply.{Reply}
 use Rattle.afr_lines.specs.declared.reply.Reply.TheVariants.{Ok}
-use Rattle.afr_lines.specs.declared.request.Request.{Request}
 use Rattle.afr_lines.specs.declared.request.Request.TheVariants.{Settle}
 use Rattle.afr_plan.specs.declared.plan.Plan.{Plan}
-use Rattle.afr_model.specs.Attempts.{IsAcknowledged, IsCurrent, IsNoOlder, Left, NoneAfter, NoneAtAll, Opening, earlier, first_reply, touches_if}
+use Rattle.afr_model.specs.Attempts.{IsAcknowledged, IsCurrent, Left, Opening, earlier, first_reply, touches_if}
 use Rattle.afr_model.specs.Cells.{Attr, Byte, Cell, Name, object_of_cell, touches, value_if, value_of}
 use Rattle.afr_model.specs.Safe.{IsSafe, accuses}
-use Rattle.afr_model.specs.Sums.{blames, has_object, pending_of, settles_pending, sum_over}
-use Rattle.afr_trace_tables.specs.Plain.{plain_tables}
+use Rattle.afr_model.specs.Sums.{blames, has_object, settles_pending, sum_over}
 use Rattle.afr_trace_safe.specs.Judged.{AllCurrent, IsObjectSafe, is_judged}
 use Rattle.afr_trace_safe.specs.Touched.{AreObjectsSafe, WasSafe, begun_more, begun_object, begun_objects, touched}
 use Rattle.afr_trace_safe.proofs.CopyLemmas.{value_plain}
-use Rattle.afr_trace_safe.proofs.QuorumLemmas.{all_four, each_safe, four_pass, more_most, not_true, safe_each, true_not}
+use Rattle.afr_trace_safe.proofs.QuorumLemmas.{all_four, each_safe, four_pass, more_most, not_true, safe_each}
 use Rattle.afr_trace_safe.proofs.StandsLemmas.{inside, touches_own}
 use Rattle.afr_trace_safe.proofs.StaysLemmas.{copy_stays, gfid_is, has_plain, in_neither, listed_at, lists}
 

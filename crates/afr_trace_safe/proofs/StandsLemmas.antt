@@ -1,9 +1,8 @@
 -- A value stands by the attempts on its object exactly where it is current.
-use Rattle.std.proofs.Common.{◌≡◌, ◌∙◌, ◌↔◌, ◌⊎◌, inl, inr, ℕ, zero, suc, ◌<◌, ◌≤◌, ◌==◌, ◌&&◌, nat_le, nat_lt, Bool, true, false, List, [], ◌∷◌, ◌++◌, Option, Some, None, length, refl, sym, ap, subst, arith, if◌then◌else◌}
+use Rattle.std.proofs.Common.{◌≡◌, ◌∙◌, ◌↔◌, ◌⊎◌, inl, inr, ℕ, zero, suc, ◌<◌, ◌≤◌, ◌==◌, nat_le, Bool, true, false, List, [], ◌∷◌, ◌++◌, Option, Some, None, length, refl, sym, ap, subst, arith, if◌then◌else◌}
 use Rattle.std.specs.Prelude.{option_and_then}
-use Rattle.std.proofs.lemmas.Bool.{eqb-true, cases_lt}
+use Rattle.std.proofs.lemmas.Bool.{eqb-true}
 use Rattle.std.proofs.lemmas.Bool.Decides.{eqb_tells, nat_tests}
-use Rattle.std.proofs.lemmas.List.{length-reverse}
 use Rattle.std.proofs.lemmas.Option.{same_Some}
 use Rattle.afr_base.specs.Bricks.{and_left}
 use Rattle.afr_base.specs.declared.ids.Gfid.{Gfid}
@@ -14,7 +13,7 @@ use Rattle.afr_object.specs.declared.change.Change.TheVariants.{Write, Cut, SetA
 use Rattle.afr_lines.specs.Log.{change_at, change_of, from_oldest}
 use Rattle.afr_lines.specs.declared.line.Line.{Line}
 use Rattle.afr_plan.specs.declared.plan.Plan.{Plan}
-use Rattle.afr_model.specs.Attempts.{IsAcknowledged, IsCurrent, IsNoOlder, Left, NoneAfter, NoneAtAll, Opening, touches_if}
+use Rattle.afr_model.specs.Attempts.{IsCurrent, Left, Opening, touches_if}
 use Rattle.afr_model.specs.Cells.{Attr, Byte, Cell, Name, Value, leaves, object_of_cell, touches, value_of}
 use Rattle.afr_trace_safe.specs.Acknowledged.{is_acknowledged}
 use Rattle.afr_trace_safe.specs.Attempts.{attempt_by, attempts_on, is_on, or_older, stands, verdict}
@@ -158,8 +157,8 @@ module _ (log : List Line) (cell : Cell) (v : Value) (opening : Bool) where
           more
           (shrink k
           (λ c g w x.
-            let yes : same_value v (leaves change cell) ≡ true = ap (same_value v) (ap (λ (d : Change). leaves d cell) (other c g) ∙ sym x) ∙ value_self v in
-            absurd (cc (u, yes))) h)
+          let yes : same_value v (leaves change cell) ≡ true = ap (same_value v) (ap (λ (d : Change). leaves d cell) (other c g) ∙ sym x) ∙ value_self v in
+          absurd (cc (u, yes))) h)
 
   to_kept : (n : ℕ) → stands_by log cell v opening n ≡ true → Kept log cell v opening n
   unfolding stands_by

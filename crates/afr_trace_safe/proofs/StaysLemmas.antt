@@ -1,5 +1,5 @@
 -- A line leaves the copies as they are of each object that it doesn't touch.
-use Rattle.std.proofs.Common.{◌≡◌, ◌∙◌, ◌⊎◌, inl, inr, ℕ, zero, suc, ◌+◌, ◌-◌, ◌<◌, ◌≤◌, ◌==◌, ◌&&◌, ◌||◌, not, nat_lt, Bool, true, false, List, [], ◌∷◌, ◌++◌, Option, Some, None, length, slice_get, refl, sym, ap, subst, arith, cond, take, if◌then◌else◌}
+use Rattle.std.proofs.Common.{◌≡◌, ◌∙◌, ◌⊎◌, inl, inr, ℕ, suc, ◌==◌, ◌||◌, Bool, true, false, List, [], ◌∷◌, ◌++◌, Option, Some, None, slice_get, refl, sym, ap, subst, cond, take, if◌then◌else◌}
 use Rattle.std.specs.Prelude.{is_some, option_map}
 use Rattle.std.specs.BTreeMap.{insert_entry, is_at}
 use Rattle.std.specs.List.{list_any}
@@ -8,13 +8,12 @@ use Rattle.std.specs.Ordering.{match_ordering}
 use Rattle.std.specs.declared.cmp.Ordering.{Ordering}
 use Rattle.std.specs.declared.cmp.Ordering.TheVariants.{Less, Equal, Greater}
 use Rattle.std.proofs.lemmas.Bool.{eqb-true}
-use Rattle.std.proofs.lemmas.Bool.Decides.{nat_tests}
 use Rattle.afr_base.specs.declared.ids.Gfid.{Gfid}
 use Rattle.afr_base.specs.declared.ids.NameId.{NameId}
 use Rattle.afr_base.specs.declared.ids.What.{What}
 use Rattle.afr_object.specs.Bytes.{copied_in, written}
 use Rattle.afr_object.specs.Object.{Object}
-use Rattle.afr_object.specs.Repairs.{Contents, Bytes, Attrs, Names, all_made, higher, mended, merged, merged_into, outranks, renamed, repaired, with_attrs}
+use Rattle.afr_object.specs.Repairs.{all_made, higher, mended, merged, merged_into, outranks, renamed, repaired, with_attrs}
 use Rattle.afr_object.specs.Tables.{Table, applied, changed, copy_at, linked, made, name_cmp, new_object, object_of, with_attr, with_bytes, with_copy, with_names}
 use Rattle.afr_object.specs.TablesLemmas.{copy_at-changed, copy_at-made}
 use Rattle.afr_object.specs.declared.change.Change.{Change}
@@ -31,7 +30,7 @@ use Rattle.afr_plan.specs.declared.plan.Plan.{Plan}
 use Rattle.afr_model.specs.Sums.{has_object}
 use Rattle.afr_model.specs.Tables.{all_names_shown, attrs_shown, bytes_shown, carried, effect, held_before, holds, keeps_bytes, names_shown}
 use Rattle.afr_trace_safe.specs.Touched.{all_lacked, all_read_objects, asked_objects, changed_objects, lacked, made_objects, named_objects, touched}
-use Rattle.afr_trace_tables.specs.Plain.{bare_object, plain_step, plain_tables, plainly_asked}
+use Rattle.afr_trace_tables.specs.Plain.{bare_object, plain_tables, plainly_asked}
 use Rattle.afr_trace_tables.proofs.BareLaws.{copy_bare}
 use Rattle.afr_trace_tables.proofs.PlainLaws.{now_bare}
 use Rattle.afr_trace_tally.proofs.TableLemmas.{names_past}

@@ -3,7 +3,7 @@ use Rattle.std.specs.Prelude.{◌≡◌, ℕ, ◌<◌, List, Option, Some, None,
 use Rattle.afr_base.specs.declared.ids.Gfid.{Gfid}
 use Rattle.afr_base.specs.declared.ids.KeyId.{KeyId}
 use Rattle.afr_base.specs.declared.ids.Kind.{Kind}
-use Rattle.afr_base.specs.declared.ids.Kind.TheVariants.{Bytes, Attrs, Names}
+use Rattle.afr_base.specs.declared.ids.Kind.TheVariants.{Attrs, Names}
 use Rattle.afr_base.specs.declared.ids.NameId.{NameId}
 use Rattle.afr_base.specs.declared.ids.ValueId.{ValueId}
 use Rattle.afr_object.specs.declared.change.Change.{Change}

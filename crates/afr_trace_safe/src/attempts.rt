@@ -52,11 +52,7 @@ fn keep_attempt(
 }
 
 /// The attempts on an object, the newest first. It walks over the log once, and once more for each of them.
-pub(crate) fn attempts_on(
-    alloc: Global,
-    log: &[Line],
-    g: Gfid,
-) -> Result<Vec<Attempt>, NoMemory>
+pub(crate) fn attempts_on(alloc: Global, log: &[Line], g: Gfid) -> Result<Vec<Attempt>, NoMemory>
     ensures { IfOk result (λ found. found.items ≡ attempts_on (reverse log.now) g (length log.now)) }
 {
     let mut found = Vec::new(alloc);

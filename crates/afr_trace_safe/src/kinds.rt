@@ -163,38 +163,8 @@ pub(crate) fn is_brick_safe(
     requires brick { b.0 < 5 }
     ensures { IfOk result (λ yes. (yes ≡ true) ↔ IsBrickSafe plan.now (reverse log.now) g b.0) }
 {
-    let one = is_kind_safe(
-        alloc,
-        first,
-        tally,
-        plan,
-        log,
-        attempts,
-        g,
-        b,
-        Kind::Bytes,
-    )?;
-    let two = is_kind_safe(
-        alloc,
-        first,
-        tally,
-        plan,
-        log,
-        attempts,
-        g,
-        b,
-        Kind::Attrs,
-    )?;
-    let three = is_kind_safe(
-        alloc,
-        first,
-        tally,
-        plan,
-        log,
-        attempts,
-        g,
-        b,
-        Kind::Names,
-    )?;
+    let one = is_kind_safe(alloc, first, tally, plan, log, attempts, g, b, Kind::Bytes)?;
+    let two = is_kind_safe(alloc, first, tally, plan, log, attempts, g, b, Kind::Attrs)?;
+    let three = is_kind_safe(alloc, first, tally, plan, log, attempts, g, b, Kind::Names)?;
     Ok(all_three(one, two, three))
 }

@@ -1,4 +1,4 @@
-use Rattle.std.proofs.Common.{◌∙◌, arith}
+use Rattle.std.proofs.Common.{arith}
 use Rattle.afr_object.specs.Tables.{copy_at}
 use Rattle.afr_trace_safe.proofs.CopyLemmas.{byte_beyond}
 use Rattle.afr_trace_safe.proofs.value.byte_on.Goals as goal
