@@ -1,6 +1,8 @@
 pub mod BlamingLemmas
 pub mod FillingLemmas
+pub mod FoundLemmas
 pub mod OutcomeLemmas
+pub mod PieceLemmas
 pub mod RoomLemmas
 pub mod SameLemmas
 pub mod ShownLemmas

@@ -20,15 +20,21 @@ use Rattle.afr_model.specs.Following.{Follows, IsFollowing, KeepsToCommand, Keep
 use Rattle.afr_model.specs.Actors.{script_of}
 use Rattle.afr_model.specs.Parts.{Part, Walks, Makes, Removes, part_at}
 use Rattle.afr_model.specs.Renamed.{KeepsToPart}
+use Rattle.afr_model.specs.Tables.{bytes_shown}
 use Rattle.afr_object.specs.State.{CanApply}
 use Rattle.afr_object.specs.Tables.{Table, copy_at}
 use Rattle.afr_object.specs.Object.{Object}
 use Rattle.afr_object.specs.declared.change.Change.{Change}
 use Rattle.afr_object.specs.declared.change.Change.TheVariants as change
+use Rattle.afr_object.specs.declared.change.Repair.TheVariants as repair
 use Rattle.afr_plan.specs.declared.command.Command.{Command}
 use Rattle.afr_plan.specs.declared.command.Command.TheVariants as command
 use Rattle.afr_plan.specs.declared.plan.Plan.{Plan}
 use Rattle.afr_trace_limits.specs.Limits.{has_long, is_long, is_past_limit}
+use Rattle.afr_trace_check.proofs.PieceLemmas.{LineFits, PieceFits}
+use Rattle.afr_trace_tables.specs.Plain.{plain_tables}
+use Rattle.afr_trace_tally.specs.Room.{CanAsk, HasRoom}
+use Rattle.afr_trace_tally.proofs.TableLemmas.{bytes_past}
 
 -- ---- commands
 neither : (a b : Bool) → (a || b) ≡ false → (a ≡ false) × (b ≡ false)
@@ -109,3 +115,26 @@ can_apply (change.Write g at bytes) t h = by (copy_at g t)
     by None = tt
     by (Some o) = omega (arith, h)
 can_apply other t h = tt
+
+-- ---- lines
+module _ (p : Plan) (older : List Line) (t : Table) where
+  asks_room : (r : Request) → is_past_limit p ≡ false → Follows false p older → PieceFits p older r → CanAsk r older (plain_tables p older).past t
+  asks_room (request.Apply attempt) short follows fits = by (change_at attempt older) refl
+    where
+      by : (o : Option Change) → change_at attempt older ≡ o → IfSome o (λ x. CanApply x t)
+      by None e = tt
+      by (Some x) e = can_apply x t (attempt_short p older attempt x short follows e)
+  asks_room (request.Mend (repair.Copy g at span read)) short follows fits = by (copy_at g t)
+    where
+      few : length (bytes_shown (plain_tables p older).past read (from_oldest read older)) ≤ span
+      few = omega (arith, fits.1, ap (λ (bytes : List ℕ). length bytes) (bytes_past p older read))
+
+      by : (o : Option Object) → IfSome o (λ _. (at + span ≤ 1048576) × (length (bytes_shown (plain_tables p older).past read (from_oldest read older)) ≤ span))
+      by None = tt
+      by (Some o) = (fits.0, few)
+  asks_room r short follows fits = tt
+
+-- the files of every brick have room for a line whose piece fits, of a log that follows a short plan
+pub has_room : (p : Plan) (l : Line) (older : List Line) → is_past_limit p ≡ false → Follows false p older → LineFits p older l → HasRoom p l older
+has_room p (line.Ask a y r told took) older short follows fits b = λ here. asks_room p older ((plain_tables p older).now b) r short follows fits
+has_room p l older short follows fits b = tt

@@ -207,7 +207,7 @@ all_later p l older b g Names out all = λ name. current_later p l older b (Name
 
 -- ---- safe logs
 -- no attempt comes before the first line, so all is as at the start
-safe_first : (p : Plan) → IsSafe p []
+pub safe_first : (p : Plan) → IsSafe p []
 safe_first p among within most b cell good = Opening refl (λ k a t. none k a.actor a.change a.begun)
   where
     none : (k : ℕ) (actor : ActorId) (change : Change) → from_oldest k [] ≡ Some (line.Begin actor change) → ⊥
