@@ -5,3 +5,6 @@ pub mod KeepingLemmas
 pub mod RenameLemmas
 pub mod HealLemmas
 pub mod FollowLemmas
+pub mod RisingLemmas
+pub mod NumberLemmas
+pub mod ListLemmas

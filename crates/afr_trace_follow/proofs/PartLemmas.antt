@@ -24,13 +24,13 @@ work_step {A} F f step a line older was h = by (is_of a line) (is_end line)
     by false end = h
 
 module _ (a : ℕ) (line : Line) (older : List Line) where
-  work_ended : is_of a line ≡ true → is_end line ≡ true → work a (line ∷ older) ≡ []
+  pub work_ended : is_of a line ≡ true → is_end line ≡ true → work a (line ∷ older) ≡ []
   work_ended h e = rw (h, e) refl
 
-  work_moved : is_of a line ≡ true → is_end line ≡ false → work a (line ∷ older) ≡ (line, older) ∷ work a older
+  pub work_moved : is_of a line ≡ true → is_end line ≡ false → work a (line ∷ older) ≡ (line, older) ∷ work a older
   work_moved h e = rw (h, e) refl
 
-  work_passed : is_of a line ≡ false → work a (line ∷ older) ≡ work a older
+  pub work_passed : is_of a line ≡ false → work a (line ∷ older) ≡ work a older
   work_passed h = rw h refl
 
 -- ---- the lines from a position on

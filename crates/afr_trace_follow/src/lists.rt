@@ -28,8 +28,10 @@ fn new_bricks(alloc: Global) -> Result<Vec<Numbered>, NoMemory>
     ensures { IfOk result (λ bricks. (p : Plan) → AreNumbered p [] bricks.items) }
 {
     let mut bricks = Vec::new(alloc);
-    for _b in 0..5 {
-        bricks.push(unnumbered(alloc))?;
+    for b in 0..5 {
+        let _b: u8 = b;
+        let brick = unnumbered(alloc);
+        bricks.push(brick)?;
     }
     Ok(bricks)
 }
@@ -38,8 +40,10 @@ fn new_given(alloc: Global) -> Result<Vec<IndexList>, NoMemory>
     ensures { IfOk result (λ given. (p : Plan) → AreGiven p [] given.items) }
 {
     let mut given = Vec::new(alloc);
-    for _i in 0..3 {
-        given.push(List::new(alloc))?;
+    for i in 0..3 {
+        let _i: u8 = i;
+        let list = List::new(alloc);
+        given.push(list)?;
     }
     Ok(given)
 }

@@ -1,8 +1,10 @@
 //! The changelog numbers of the copies of one brick, step by step, and which copies are listed for them. A tally has sums in their
 //! place, which say less: a number that was taken back too often stands at 0 here, and rises with the next operation.
 ghost use Rattle.std.specs.Prelude.{◌≡◌, ◌+◌, ◌-◌, ◌<◌, ◌≤◌, ◌^◌, ◌∷◌, ◌==◌, ℕ, [], List, Some, OnOk, length, reverse, slice_index, if◌then◌else◌};
+ghost use Rattle.std.specs.BTreeMap.{insert_entry};
 ghost use Rattle.std.specs.Option.{option_copied};
 ghost use Rattle.afr_base.specs.Marks.{closed_op, dirtied, less_each, marks_of, plus_missed, taken_back, with_marks};
+ghost use Rattle.afr_object.specs.Tables.{gfid_cmp};
 ghost use Rattle.afr_plan.specs.declared.plan.Plan.{Plan};
 ghost use Rattle.afr_trace_follow.specs.Numbers.{IsNumbered, IsRoomy, listed_by, marks_at, numbers_in, or_no_marks, renumbered, request_at};
 ghost use Rattle.afr_trace_tally.specs.Tally.{IsTally};
@@ -151,6 +153,16 @@ fn request_at(b: BrickId, line: &Line) -> Option<&Request>
 
 // ---- one more line
 
+fn put_marks(
+    kept: &mut SortedMap<Gfid, AllMarks>,
+    g: Gfid,
+    all: AllMarks,
+) -> Result<(), NoMemory>
+    ensures ok { OnOk result (kept.new ≡ insert_entry gfid_cmp kept.old g all) }
+{
+    kept.insert(g, all)
+}
+
 fn relist(index: &mut Index, g: Gfid, what: What, all: &AllMarks) -> Result<(), NoMemory>
     ensures ok { OnOk result (index.new ≡ listed_by g what all.now index.old) }
 {
@@ -197,7 +209,7 @@ fn number(
         return Ok(());
     };
     let all = renumber(marks_at(&n.marks, g), kind, request);
-    n.marks.insert(g, all)?;
+    put_marks(&mut n.marks, g, all)?;
     relist(&mut n.index, g, view.what, &all)?;
     Ok(())
 }
