@@ -1,7 +1,7 @@
 //! Whether a line is what the plan has for its moment.
 ghost use Rattle.std.specs.Prelude.{◌≡◌, ◌↔◌, ◌<◌, ◌≤◌, ◌&&◌, Some, false, true, length, reverse, slice_get};
 ghost use Rattle.std.specs.Option.{option_copied};
-ghost use Rattle.afr_lines.specs.Work.{ended, events_made, work};
+ghost use Rattle.afr_lines.specs.Work.{events_made, is_killed, work};
 ghost use Rattle.afr_model.specs.Actors.{rounds_of, script_of};
 ghost use Rattle.afr_model.specs.Following.{IsDue, IsFollowing, IsNextEvent, IsTurnOf, KeepsToCommand, KeepsToTask, NoneDue};
 ghost use Rattle.afr_trace_follow.specs.Commands.{new_path};
@@ -254,6 +254,14 @@ fn keeps_to_task(
     }
 }
 
+fn is_alive(tally: &Tally, plan: &Plan, log: &[Line], a: ActorId) -> bool
+    requires tally { IsTally plan.now (reverse log.now) tally.now }
+    requires known { a.0 < 20 }
+    ensures { (result ≡ true) ↔ (is_killed a.0 (reverse log.now) ≡ false) }
+{
+    !tally.is_killed(plan, log, a)
+}
+
 /// Whether an actor lives, and the line keeps to its present task.
 fn is_turn_of(
     tally: &Tally,
@@ -272,7 +280,7 @@ fn is_turn_of(
     if !is_actor(plan, a) {
         return false;
     }
-    if tally.is_killed(plan, log, a) {
+    if !is_alive(tally, plan, log, a) {
         return false;
     }
     keeps_to_task(tally, plan, log, lists, a, line)

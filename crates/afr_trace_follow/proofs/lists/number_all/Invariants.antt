@@ -5,6 +5,6 @@ use Rattle.afr_trace_follow.proofs.lists.number_all.Given as goal
 
 abbrev pub invariant-loop-b : goal.invariant-loop-b
 invariant-loop-b l = record {
-  five : length l.number_moren.items ≡ 5;
-  between : IsBetween (IsNumbered l.plan (l.line ∷ reverse l.older)) (IsNumbered l.plan (reverse l.older)) l.b l.number_moren.items;
+  five : length l.bricks.items ≡ 5;
+  between : IsBetween (IsNumbered l.plan (l.line ∷ reverse l.older)) (IsNumbered l.plan (reverse l.older)) l.b l.bricks.items;
 }
