@@ -8,3 +8,4 @@ pub mod FollowLemmas
 pub mod RisingLemmas
 pub mod NumberLemmas
 pub mod ListLemmas
+pub mod ChangeLemmas

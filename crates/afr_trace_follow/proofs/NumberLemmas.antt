@@ -167,10 +167,6 @@ all_same x y h = three_same x.bytes y.bytes x.attrs y.attrs x.names y.names (h B
 
 module _ (p : Plan) (b : ℕ) (line : Line) (older : List Line) (n new : Numbered) (r : Request) (h : Gfid) (k : Kind) (what : What) (all : AllMarks) (e : request_at b line ≡ Some r) (f : numbers_in r ≡ Some (h, k)) (there : IsFound p older b h what)
   (is : all ≡ with_marks k (renumbered r (marks_of k (marks_at h n.marks))) (marks_at h n.marks)) (v : IsNumbered p older b n) where
-  -- the copy after the line
-  after : Object
-  after = with_numbers k (renumbered r) there.object
-
   kept : marks_at h n.marks ≡ there.object.marks
   kept = all_same (marks_at h n.marks) there.object.marks (λ kind. v.marks h kind ∙ ap (numbers_if kind) there.found)
 

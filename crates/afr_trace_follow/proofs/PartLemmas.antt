@@ -89,13 +89,13 @@ start_within a (line ∷ older) = by (is_of a line) (is_end line) (start_within 
 -- the lines since it began are its lines
 pub start_work : (a : ℕ) (log : List Line) → lines_from a (work_start a log) log ≡ work a log
 start_work a [] = refl
-start_work a (line ∷ older) = by (is_of a line) (is_end line) refl refl
+start_work a (line ∷ older) = by (is_of a line) (is_end line) refl refl (start_work a older)
   where
-    by : (of end : Bool) → is_of a line ≡ of → is_end line ≡ end
+    by : (of end : Bool) → is_of a line ≡ of → is_end line ≡ end → lines_from a (work_start a older) older ≡ work a older
         → lines_from a (if of then (if end then suc (length older) else work_start a older) else work_start a older) (line ∷ older) ≡ (if of then (if end then [] else (line, older) ∷ work a older) else work a older)
-    by true true h e = none_from a (suc (length older)) (line ∷ older) (omega arith)
-    by true false h e = first_of a (work_start a older) line older h (start_within a older) ∙ ap (λ (w : Work). (line, older) ∷ w) (start_work a older)
-    by false end h e = not_of a (work_start a older) line older h ∙ start_work a older
+    by true true h e more = none_from a (suc (length older)) (line ∷ older) (omega arith)
+    by true false h e more = first_of a (work_start a older) line older h (start_within a older) ∙ ap (λ (w : Work). (line, older) ∷ w) more
+    by false end h e more = not_of a (work_start a older) line older h ∙ more
 
 -- ---- the names
 names_cons : (x : Line × List Line) (w : Work) → names_asked w ≤ names_asked (x ∷ w)

@@ -7,6 +7,7 @@ ghost use Rattle.afr_trace_follow.specs.Keeping.{IsNamedAt, IsNextOf};
 ghost use Rattle.afr_trace_follow.specs.Seen.{path_seen};
 
 use crate::path::Path;
+use crate::tests::{both, same_gfid, same_number};
 use afr_base::{Gfid, KeyId, NameId, ValueId, What};
 use afr_object::{Change, Chunk};
 use afr_plan::{Command, NamePath};
@@ -66,6 +67,36 @@ pub(crate) fn last_of(path: &[NameId]) -> Option<NameId>
 
 // ---- a change
 
+fn same_place(one: u32, other: u32) -> bool
+    ensures { (result ≡ true) ↔ (one ≡ other) }
+{
+    one == other
+}
+
+fn same_key(one: KeyId, other: KeyId) -> bool
+    ensures { (result ≡ true) ↔ (one ≡ other) }
+{
+    one == other
+}
+
+fn same_value(one: ValueId, other: ValueId) -> bool
+    ensures { (result ≡ true) ↔ (one ≡ other) }
+{
+    one == other
+}
+
+fn same_name(one: NameId, other: NameId) -> bool
+    ensures { (result ≡ true) ↔ (one ≡ other) }
+{
+    one == other
+}
+
+fn same_bytes(one: &Chunk, other: &Chunk) -> bool
+    ensures { (result ≡ true) ↔ (one.now ≡ other.now) }
+{
+    one.as_slice() == other.as_slice()
+}
+
 fn is_write(change: &Change, g: Gfid, at: u32, bytes: &Chunk) -> bool
     ensures { (result ≡ true) ↔ (Change.Write g at bytes.now ≡ change.now) }
 {
@@ -74,7 +105,10 @@ fn is_write(change: &Change, g: Gfid, at: u32, bytes: &Chunk) -> bool
             gfid,
             at: from,
             bytes: carried,
-        } => *gfid == g && *from == at && carried.as_slice() == bytes.as_slice(),
+        } => {
+            let within = both(same_gfid(*gfid, g), same_place(*from, at));
+            both(within, same_bytes(carried, bytes))
+        }
         _ => false,
     }
 }
@@ -83,7 +117,7 @@ fn is_cut(change: &Change, g: Gfid, len: u32) -> bool
     ensures { (result ≡ true) ↔ (Change.Cut g len ≡ change.now) }
 {
     match change {
-        Change::Cut { gfid, len: left } => *gfid == g && *left == len,
+        Change::Cut { gfid, len: left } => both(same_gfid(*gfid, g), same_place(*left, len)),
         _ => false,
     }
 }
@@ -96,7 +130,10 @@ fn is_set_attr(change: &Change, g: Gfid, key: KeyId, value: ValueId) -> bool
             gfid,
             key: named,
             value: given,
-        } => *gfid == g && *named == key && *given == value,
+        } => {
+            let within = both(same_gfid(*gfid, g), same_key(*named, key));
+            both(within, same_value(*given, value))
+        }
         _ => false,
     }
 }
@@ -119,7 +156,11 @@ fn is_make(change: &Change, dir: Gfid, name: NameId, made: Gfid, what: What) -> 
             name: named,
             gfid,
             what: kind,
-        } => *within == dir && *named == name && *gfid == made && same_what(*kind, what),
+        } => {
+            let there = both(same_gfid(*within, dir), same_name(*named, name));
+            let it = both(same_gfid(*gfid, made), same_what(*kind, what));
+            both(there, it)
+        }
         _ => false,
     }
 }
@@ -132,7 +173,10 @@ fn is_remove(change: &Change, dir: Gfid, name: NameId, what: What) -> bool
             dir: within,
             name: named,
             what: kind,
-        } => *within == dir && *named == name && same_what(*kind, what),
+        } => {
+            let there = both(same_gfid(*within, dir), same_name(*named, name));
+            both(there, same_what(*kind, what))
+        }
         _ => false,
     }
 }
@@ -208,7 +252,8 @@ pub(crate) fn is_named_at(
 {
     match place {
         Path::At(read, object) => {
-            read == steps_of(command) && is_named(object.gfid, position, command, change)
+            let led = same_number(read, steps_of(command));
+            both(led, is_named(object.gfid, position, command, change))
         }
         Path::NoName => false,
         Path::Untold => false,
@@ -231,7 +276,10 @@ pub(crate) fn is_next_of(path: Path, names: &[NameId], g: Gfid, name: NameId) ->
     ensures { (result ≡ true) ↔ IsNextOf (path_seen path) names.now g name }
 {
     match path {
-        Path::At(read, object) => object.gfid == g && is_name_at(names, read, name),
+        Path::At(read, object) => {
+            let there = same_gfid(object.gfid, g);
+            both(there, is_name_at(names, read, name))
+        }
         Path::NoName => false,
         Path::Untold => false,
     }

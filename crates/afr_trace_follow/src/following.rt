@@ -1,5 +1,5 @@
 //! Whether a line is what the plan has for its moment.
-ghost use Rattle.std.specs.Prelude.{◌≡◌, ◌↔◌, ◌<◌, ◌≤◌, ◌&&◌, Some, false, true, length, reverse, slice_get};
+ghost use Rattle.std.specs.Prelude.{◌≡◌, ◌↔◌, ◌<◌, ◌≤◌, Some, false, true, length, reverse, slice_get};
 ghost use Rattle.std.specs.Option.{option_copied};
 ghost use Rattle.afr_lines.specs.Work.{events_made, is_killed, work};
 ghost use Rattle.afr_model.specs.Actors.{rounds_of, script_of};
@@ -14,6 +14,7 @@ use crate::keeping::keeps_to;
 use crate::lists::Lists;
 use crate::renamed::keeps_to_rename;
 use crate::rounds::keeps_to_round;
+use crate::tests::{both, same_brick};
 use afr_base::{ActorId, BrickId};
 use afr_lines::{Event, Line};
 use afr_plan::{Command, NamePath, Plan, PlannedEvent};
@@ -39,11 +40,24 @@ fn is_start(event: Event, b: BrickId) -> bool
     }
 }
 
+fn same_actor(one: ActorId, other: ActorId) -> bool
+    ensures { (result ≡ true) ↔ (one ≡ other) }
+{
+    one == other
+}
+
+fn is_pair(actor: ActorId, brick: BrickId, a: ActorId, b: BrickId) -> bool
+    ensures { (result ≡ true) ↔ ((actor ≡ a) × (brick ≡ b)) }
+{
+    let one = same_actor(actor, a);
+    both(one, same_brick(brick, b))
+}
+
 fn is_cut(event: Event, a: ActorId, b: BrickId) -> bool
     ensures { (result ≡ true) ↔ (Event.Cut a b ≡ event) }
 {
     match event {
-        Event::Cut(actor, brick) => actor == a && brick == b,
+        Event::Cut(actor, brick) => is_pair(actor, brick, a, b),
         _ => false,
     }
 }
@@ -52,7 +66,7 @@ fn is_join(event: Event, a: ActorId, b: BrickId) -> bool
     ensures { (result ≡ true) ↔ (Event.Join a b ≡ event) }
 {
     match event {
-        Event::Join(actor, brick) => actor == a && brick == b,
+        Event::Join(actor, brick) => is_pair(actor, brick, a, b),
         _ => false,
     }
 }
@@ -87,11 +101,18 @@ fn planned<'a>(tally: &Tally, plan: &'a Plan, log: &[Line]) -> Option<&'a Planne
     plan.events.as_slice().get(made as usize)
 }
 
+fn is_within(at: u32, len: usize) -> bool
+    ensures { (result ≡ true) ↔ (at ≤ len) }
+{
+    at as usize <= len
+}
+
 /// Whether a planned event is this one, and its moment has come.
 fn has_come(next: &PlannedEvent, event: Event, len: usize) -> bool
     ensures { (result ≡ true) ↔ ((next.now.event ≡ event) × (next.now.at ≤ len)) }
 {
-    same_event(next.event, event) && next.at as usize <= len
+    let same = same_event(next.event, event);
+    both(same, is_within(next.at, len))
 }
 
 fn is_later(next: &PlannedEvent, len: usize) -> bool
@@ -284,12 +305,6 @@ fn is_turn_of(
         return false;
     }
     keeps_to_task(tally, plan, log, lists, a, line)
-}
-
-fn both(one: bool, other: bool) -> bool
-    ensures { result ≡ (one && other) }
-{
-    one && other
 }
 
 /// Whether a line of an actor is its turn, and no event is due.

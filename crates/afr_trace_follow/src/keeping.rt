@@ -18,6 +18,7 @@ ghost use Rattle.afr_trace_tally.specs.Tally.{IsTally};
 use crate::commands::{is_named_at, is_next_of, is_on_name, path_of, steps_of};
 use crate::path::Path;
 use crate::stand::{Stand, stand_of};
+use crate::tests::{both, is_not};
 use afr_base::{ActorId, NameId};
 use afr_lines::{Line, Request};
 use afr_plan::{Command, Plan};
@@ -76,7 +77,10 @@ fn begins_named(line: &Line, begun: bool, place: Path, command: &Command, positi
     ensures { (change : Change) → change_of line.now ≡ Some change → ((result ≡ true) ↔ ((begun ≡ false) × IsNamedAt (path_seen place) command.now position change)) }
 {
     match line {
-        Line::Begin { change, .. } => !begun && is_named_at(place, command, position, change),
+        Line::Begin { change, .. } => {
+            let first = is_not(begun);
+            both(first, is_named_at(place, command, position, change))
+        }
         _ => false,
     }
 }

@@ -11,6 +11,7 @@ mod path;
 mod renamed;
 mod rounds;
 mod stand;
+mod tests;
 
 pub use following::is_following;
 pub use lists::Lists;

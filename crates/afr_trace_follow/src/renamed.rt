@@ -19,6 +19,7 @@ use crate::keeping::keeps_by;
 use crate::parts::{Second, Walked, is_again, parted, walked};
 use crate::path::Path;
 use crate::stand::{at_start, stand_of, stand_on};
+use crate::tests::{both, is_not, same_number};
 use afr_base::{ActorId, Gfid, NameId, What};
 use afr_lines::Line;
 use afr_object::Change;
@@ -46,13 +47,29 @@ fn keeps_to_walk(
 
 // ---- the new name
 
+fn is_file_at(read: usize, names: usize, what: What) -> bool
+    ensures { (result ≡ true) ↔ ((read ≡ names) × (what ≡ What.File)) }
+{
+    let all = same_number(read, names);
+    both(all, is_file(what))
+}
+
+fn is_file(what: What) -> bool
+    ensures { (result ≡ true) ↔ (what ≡ What.File) }
+{
+    match what {
+        What::File => true,
+        What::Dir => false,
+    }
+}
+
 /// The file that a path of so many names has led to.
 fn file_at(path: Path, names: usize) -> Option<Gfid>
     ensures { (g : Gfid) → (result ≡ Some g) ↔ (path_seen path ≡ SpecAt names (record { gfid = g; what = What.File })) }
 {
     match path {
         Path::At(read, object) => {
-            if read == names && matches!(object.what, What::File) {
+            if is_file_at(read, names, object.what) {
                 Some(object.gfid)
             } else {
                 None
@@ -69,8 +86,8 @@ fn links_at(file: Gfid, place: Path, to: &[NameId], change: &Change) -> bool
 {
     match place {
         Path::At(read, dir) => {
-            read == to.len().saturating_sub(1)
-                && makes_last(change, dir.gfid, to, file, What::File)
+            let led = same_number(read, to.len().saturating_sub(1));
+            both(led, makes_last(change, dir.gfid, to, file, What::File))
         }
         Path::NoName => false,
         Path::Untold => false,
@@ -82,7 +99,10 @@ fn begins_link(line: &Line, begun: bool, file: Option<Gfid>, place: Path, to: &[
     ensures { (change : Change) → change_of line.now ≡ Some change → ((result ≡ true) ↔ ((begun ≡ false) × ((g : Gfid) × (file ≡ Some g) × IsLinkAt g (path_seen place) to.now change))) }
 {
     match (line, file) {
-        (Line::Begin { change, .. }, Some(file)) => !begun && links_at(file, place, to, change),
+        (Line::Begin { change, .. }, Some(file)) => {
+            let first = is_not(begun);
+            both(first, links_at(file, place, to, change))
+        }
         _ => false,
     }
 }
@@ -123,8 +143,8 @@ fn removes_at(place: Path, from: &[NameId], change: &Change) -> bool
 {
     match place {
         Path::At(read, dir) => {
-            read == from.len().saturating_sub(1)
-                && removes_last(change, dir.gfid, from, What::File)
+            let led = same_number(read, from.len().saturating_sub(1));
+            both(led, removes_last(change, dir.gfid, from, What::File))
         }
         Path::NoName => false,
         Path::Untold => false,
@@ -136,7 +156,10 @@ fn begins_removal(line: &Line, begun: bool, place: Path, from: &[NameId]) -> boo
     ensures { (position : ℕ) (change : Change) → change_of line.now ≡ Some change → ((result ≡ true) ↔ ((begun ≡ false) × IsNamedAt (path_seen place) (Command.Unlink from.now) position change)) }
 {
     match line {
-        Line::Begin { change, .. } => !begun && removes_at(place, from, change),
+        Line::Begin { change, .. } => {
+            let first = is_not(begun);
+            both(first, removes_at(place, from, change))
+        }
         _ => false,
     }
 }

@@ -9,6 +9,7 @@ ghost use Rattle.afr_model.specs.Rounds.{KeepsToIndexed, due_in, kind_within, ob
 ghost use Rattle.afr_object.specs.Repairs.{repaired};
 ghost use Rattle.afr_trace_follow.specs.Healing.{IsHealOf, IsHealing, has_line, is_index, nth_heal};
 
+use crate::tests::{both, is_not, same_brick, same_gfid};
 use afr_base::{ActorId, BrickId, Gfid, Kind, What};
 use afr_lines::{Area, Line, Request};
 use afr_object::Repair;
@@ -178,7 +179,7 @@ fn is_due(due: Option<(Gfid, Kind)>, g: Gfid, kind: Kind) -> bool
     ensures { (result ≡ true) ↔ (due ≡ Some (g, kind)) }
 {
     match due {
-        Some((object, within)) => object == g && same_kind(within, kind),
+        Some((object, within)) => both(same_gfid(object, g), same_kind(within, kind)),
         None => false,
     }
 }
@@ -188,7 +189,7 @@ fn is_heal_of(due: Option<(Gfid, Kind)>, object: Option<Gfid>) -> bool
     ensures { (result ≡ true) ↔ IsHealOf due object }
 {
     match (due, object) {
-        (Some((object, _)), Some(asked)) => object == asked,
+        (Some((object, _)), Some(asked)) => same_gfid(object, asked),
         _ => false,
     }
 }
@@ -197,14 +198,15 @@ fn is_heal_of(due: Option<(Gfid, Kind)>, object: Option<Gfid>) -> bool
 fn asks_index(b: BrickId, begun: bool, brick: BrickId) -> bool
     ensures { (result ≡ true) ↔ ((begun ≡ false) × (brick ≡ b)) }
 {
-    !begun && brick == b
+    let first = is_not(begun);
+    both(first, same_brick(brick, b))
 }
 
 /// Whether the work has begun, and nothing is left to heal.
 fn is_healed(due: Option<(Gfid, Kind)>, begun: bool) -> bool
     ensures { (result ≡ true) ↔ ((begun ≡ true) × (due ≡ None)) }
 {
-    begun && due.is_none()
+    both(begun, due.is_none())
 }
 
 /// Whether a request of a round asks first for the index of its brick, then is about the heal that is due.

@@ -1,4 +1,4 @@
-use Rattle.std.proofs.Common.{◌≡◌, ◌∙◌, ◌-◌, [], List, length, refl, reverse}
+use Rattle.std.proofs.Common.{◌≡◌, ◌∙◌, ◌-◌, [], List, length, reverse, sym}
 use Rattle.afr_base.specs.declared.ids.Gfid.{Gfid}
 use Rattle.afr_lines.specs.Work.{Work, work}
 use Rattle.afr_model.specs.Parts.{the_make, the_walk}
@@ -21,5 +21,5 @@ returns c =
     (make_keeps c.args.plan.now c.args.from.now c.args.to.now c.args.line.now (length c.args.log.now) all (path_seen c.stand_on-make.result.path) c.begins_link-begins.result v.path
     (λ change e.
     as_well c.begins_link-begins.result _ _
-    (link_is c.args.plan.now c.args.from.now c.args.to.now all change c.stand_on-make.result.begun c.file_at-file.result (path_seen c.stand_on-make.result.place) v.begun v.place ?) (c.begins_link-begins.ensures change e)))
+    (link_is c.args.plan.now c.args.from.now c.args.to.now all change c.stand_on-make.result.begun c.file_at-file.result (path_seen c.stand_on-make.result.place) v.begun v.place (λ g. (λ e. sym walk.path ∙ (c.file_at-file.ensures g).0 e, λ e. (c.file_at-file.ensures g).1 (walk.path ∙ e)))) (c.begins_link-begins.ensures change e)))
     c.keeps_by.ensures
