@@ -4,10 +4,12 @@ use Rattle.std.specs.Prelude.{nat_le}
 use Rattle.std.proofs.lemmas.Bool.{and_parts, le-leb, leb-true, or_cases}
 use Rattle.std.proofs.lemmas.List.{get_or_past}
 use Rattle.std.proofs.lemmas.Option.{same_Some}
+use Rattle.afr_base.specs.declared.ids.ActorId.{ActorId}
 use Rattle.afr_base.specs.declared.ids.BrickId.{BrickId}
 use Rattle.afr_base.specs.declared.ids.NameId.{NameId}
 use Rattle.afr_lines.specs.Work.{Work, ended, events_made, work}
 use Rattle.afr_lines.specs.declared.line.Event.{Event}
+use Rattle.afr_lines.specs.declared.line.Event.TheVariants.{Cut, Join}
 use Rattle.afr_lines.specs.declared.line.Line.{Line}
 use Rattle.afr_model.specs.Actors.{Client, Healer, IsActor, rounds_of, script_of}
 use Rattle.afr_model.specs.Commands.{path_of}
@@ -55,6 +57,13 @@ pub none_later : (p : Plan) (older : List Line) → None ≡ slice_get p.events 
 none_later p older e x h =
     let no : None ≡ Some x = e ∙ h in
     absurd (cc no)
+
+-- the same link
+pub same_cut : (a x : ActorId) (b y : BrickId) → ((x ≡ a) × (y ≡ b) → Cut a b ≡ Cut x y) × (Cut a b ≡ Cut x y → (x ≡ a) × (y ≡ b))
+same_cut a x b y = (λ k. rw (k.0, k.1) refl, λ e. (cc, cc))
+
+pub same_join : (a x : ActorId) (b y : BrickId) → ((x ≡ a) × (y ≡ b) → Join a b ≡ Join x y) × (Join a b ≡ Join x y → (x ≡ a) × (y ≡ b))
+same_join a x b y = (λ k. rw (k.0, k.1) refl, λ e. (cc, cc))
 
 -- ---- actors
 or_true : (t : Bool) → (t || true) ≡ true

@@ -1,6 +1,7 @@
 -- Where a round stands in the heals of its list.
 use Rattle.std.proofs.Common.{◌≡◌, ◌↔◌, ◌∙◌, ℕ, zero, suc, ◌+◌, ◌<◌, ◌≤◌, ◌==◌, ◌%◌, ◌/◌, Bool, true, false, List, [], ◌∷◌, Option, Some, None, length, slice_get, refl, sym, ap, subst, arith, if◌then◌else◌}
 use Rattle.std.specs.Option.{option_map}
+use Rattle.std.proofs.lemmas.Option.{same_Some, some_pair_parts}
 use Rattle.afr_base.specs.declared.ids.ActorId.{ActorId}
 use Rattle.afr_base.specs.declared.ids.BrickId.{BrickId}
 use Rattle.afr_base.specs.declared.ids.Gfid.{Gfid}
@@ -96,3 +97,27 @@ healed_is list [] due begun hd hb = (λ k. none (sym hb ∙ k.0), λ k. some k.b
     some : {x : Line × List Line} {w : Work} → [] ≡ x ∷ w → (begun ≡ true) × (due ≡ None)
     some e = absurd (cc e)
 healed_is list (x ∷ w) due begun hd hb = (λ k. record { first = x; older = w; begun = refl; done = sym hd ∙ k.1 }, λ k. (hb, hd ∙ k.done))
+
+-- ---- the heal that is due
+pub pair_due : (object g : Gfid) (within kind : Kind) → ((object ≡ g) × (within ≡ kind) → ◌≡◌ {A = Option (Gfid × Kind)} (Some (object, within)) (Some (g, kind))) × (◌≡◌ {A = Option (Gfid × Kind)} (Some (object, within)) (Some (g, kind)) → (object ≡ g) × (within ≡ kind))
+pair_due object g within kind = (λ k. rw (k.0, k.1) refl, λ e. some_pair_parts object g within kind e)
+
+pub no_due : (g : Gfid) (kind : Kind) → ◌≡◌ {A = Option (Gfid × Kind)} None (Some (g, kind)) → ⊥
+no_due g kind e = absurd (cc e)
+
+pub heal_here : (due : Option (Gfid × Kind)) (gfid object : Gfid) (kind : Kind) → due ≡ Some (gfid, kind) → (gfid ≡ object → IsHealOf due (Some object)) × (IsHealOf due (Some object) → gfid ≡ object)
+heal_here due gfid object kind h =
+    (
+      λ e. record { gfid = gfid; kind = kind; is_due = h; about = ap Some (sym e) },
+      λ k.
+      let s = some_pair_parts gfid k.gfid kind k.kind (sym h ∙ k.is_due) in
+      s.0 ∙ sym (same_Some object k.gfid k.about),
+    )
+
+pub no_object : (due : Option (Gfid × Kind)) → IsHealOf due None → ⊥
+no_object due k = absurd (cc k.about)
+
+pub no_heal : (due : Option (Gfid × Kind)) (object : Option Gfid) → due ≡ None → IsHealOf due object → ⊥
+no_heal due object h k =
+    let no : None ≡ Some (k.gfid, k.kind) = sym h ∙ k.is_due in
+    absurd (cc no)

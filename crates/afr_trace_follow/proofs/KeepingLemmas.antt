@@ -165,3 +165,22 @@ place_path p c w s v no = v.path ∙ sym (ap (λ (t : Bool). if t then path_upto
 
 pub place_name : (p : Plan) (c : Command) (w : Work) (s : Stand) → IsAt p (steps_of c) w s → is_on_name c ≡ true → path_seen s.place ≡ place_by p c w
 place_name p c w s v yes = v.place ∙ sym (ap (λ (t : Bool). if t then path_upto (steps_of c) p w else path_by p w) yes)
+
+-- ---- what a line begins
+-- a test of the change that a line begins is one of any change that it begins
+pub of_change : (line : Line) (P : Change → Type 0) (begun : Change) (r : Bool) → Some begun ≡ change_of line → ((r ≡ true) ↔ P begun) → (change : Change) → change_of line ≡ Some change → ((r ≡ true) ↔ P change)
+of_change line P begun r h k change e = subst (λ (x : Change). (r ≡ true) ↔ P x) (same_Some begun change (h ∙ e)) k
+
+pub no_begin : (line : Line) (P : Type 0) (r : Bool) → None ≡ change_of line → (change : Change) → change_of line ≡ Some change → ((r ≡ true) ↔ P)
+no_begin line P r h change e =
+    let no : None ≡ Some change = h ∙ e in
+    absurd (cc no)
+
+-- the file is there
+pub some_link : (file : Gfid) (begun : Bool) (place : Path) (to : List NameId) (change : Change)
+    → ((begun ≡ false) × IsLinkAt file place to change → (begun ≡ false) × ((g : Gfid) × (Some file ≡ Some g) × IsLinkAt g place to change))
+    × ((begun ≡ false) × ((g : Gfid) × (Some file ≡ Some g) × IsLinkAt g place to change) → (begun ≡ false) × IsLinkAt file place to change)
+some_link file begun place to change = (λ k. (k.0, (file, refl, k.1)), λ k. (k.0, subst (λ (g : Gfid). IsLinkAt g place to change) (sym (same_Some file k.1.0 k.1.1)) k.1.2))
+
+pub none_link : (begun : Bool) (place : Path) (to : List NameId) (change : Change) → (begun ≡ false) × ((g : Gfid) × (None ≡ Some g) × IsLinkAt g place to change) → ⊥
+none_link begun place to change k = absurd (cc k.1.1)

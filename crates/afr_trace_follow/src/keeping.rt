@@ -22,7 +22,7 @@ use crate::tests::{both, is_not};
 use afr_base::{ActorId, NameId};
 use afr_lines::{Line, Request};
 use afr_plan::{Command, Plan};
-use afr_trace_tally::Tally;
+use afr_trace_tally::{Tally, change_of};
 
 /// Whether a line reads the next of these names, begins what it may begin, or does neither.
 pub(crate) fn keeps_by(line: &Line, path: Path, names: &[NameId], begins: bool) -> bool
@@ -76,12 +76,12 @@ fn begins_named(line: &Line, begun: bool, place: Path, command: &Command, positi
     requires { position < 2 ^ 62 }
     ensures { (change : Change) → change_of line.now ≡ Some change → ((result ≡ true) ↔ ((begun ≡ false) × IsNamedAt (path_seen place) command.now position change)) }
 {
-    match line {
-        Line::Begin { change, .. } => {
+    match change_of(line) {
+        Some(change) => {
             let first = is_not(begun);
             both(first, is_named_at(place, command, position, change))
         }
-        _ => false,
+        None => false,
     }
 }
 

@@ -24,7 +24,7 @@ use afr_base::{ActorId, Gfid, NameId, What};
 use afr_lines::Line;
 use afr_object::Change;
 use afr_plan::{Command, Plan};
-use afr_trace_tally::Tally;
+use afr_trace_tally::{Tally, change_of};
 
 /// Whether a line of the walk along the first path keeps to it.
 fn keeps_to_walk(
@@ -94,16 +94,32 @@ fn links_at(file: Gfid, place: Path, to: &[NameId], change: &Change) -> bool
     }
 }
 
+/// Whether a change is the first one of the making, and gives the file its new name.
+fn begins_file(
+    begun: bool,
+    file: Option<Gfid>,
+    place: Path,
+    to: &[NameId],
+    change: &Change,
+) -> bool
+    ensures { (result ≡ true) ↔ ((begun ≡ false) × ((g : Gfid) × (file ≡ Some g) × IsLinkAt g (path_seen place) to.now change.now)) }
+{
+    match file {
+        Some(file) => {
+            let first = is_not(begun);
+            both(first, links_at(file, place, to, change))
+        }
+        None => false,
+    }
+}
+
 /// Whether a line that begins an attempt begins the first one of the making, and gives the file its new name.
 fn begins_link(line: &Line, begun: bool, file: Option<Gfid>, place: Path, to: &[NameId]) -> bool
     ensures { (change : Change) → change_of line.now ≡ Some change → ((result ≡ true) ↔ ((begun ≡ false) × ((g : Gfid) × (file ≡ Some g) × IsLinkAt g (path_seen place) to.now change))) }
 {
-    match (line, file) {
-        (Line::Begin { change, .. }, Some(file)) => {
-            let first = is_not(begun);
-            both(first, links_at(file, place, to, change))
-        }
-        _ => false,
+    match change_of(line) {
+        Some(change) => begins_file(begun, file, place, to, change),
+        None => false,
     }
 }
 
@@ -155,12 +171,12 @@ fn removes_at(place: Path, from: &[NameId], change: &Change) -> bool
 fn begins_removal(line: &Line, begun: bool, place: Path, from: &[NameId]) -> bool
     ensures { (position : ℕ) (change : Change) → change_of line.now ≡ Some change → ((result ≡ true) ↔ ((begun ≡ false) × IsNamedAt (path_seen place) (Command.Unlink from.now) position change)) }
 {
-    match line {
-        Line::Begin { change, .. } => {
+    match change_of(line) {
+        Some(change) => {
             let first = is_not(begun);
             both(first, removes_at(place, from, change))
         }
-        _ => false,
+        None => false,
     }
 }
 

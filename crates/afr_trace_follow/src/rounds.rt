@@ -188,9 +188,12 @@ fn is_due(due: Option<(Gfid, Kind)>, g: Gfid, kind: Kind) -> bool
 fn is_heal_of(due: Option<(Gfid, Kind)>, object: Option<Gfid>) -> bool
     ensures { (result ≡ true) ↔ IsHealOf due object }
 {
-    match (due, object) {
-        (Some((object, _)), Some(asked)) => same_gfid(object, asked),
-        _ => false,
+    let Some((gfid, _)) = due else {
+        return false;
+    };
+    match object {
+        Some(object) => same_gfid(gfid, object),
+        None => false,
     }
 }
 
@@ -202,11 +205,20 @@ fn asks_index(b: BrickId, begun: bool, brick: BrickId) -> bool
     both(first, same_brick(brick, b))
 }
 
+fn is_nothing(due: Option<(Gfid, Kind)>) -> bool
+    ensures { (result ≡ true) ↔ (due ≡ None) }
+{
+    match due {
+        Some(_) => false,
+        None => true,
+    }
+}
+
 /// Whether the work has begun, and nothing is left to heal.
 fn is_healed(due: Option<(Gfid, Kind)>, begun: bool) -> bool
     ensures { (result ≡ true) ↔ ((begun ≡ true) × (due ≡ None)) }
 {
-    both(begun, due.is_none())
+    both(begun, is_nothing(due))
 }
 
 /// Whether a request of a round asks first for the index of its brick, then is about the heal that is due.
