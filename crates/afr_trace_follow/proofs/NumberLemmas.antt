@@ -1,11 +1,11 @@
 -- What one line makes of the changelog numbers of a brick, and of the list of its objects that have some.
-use Rattle.std.proofs.Common.{◌≡◌, ◌∙◌, ℕ, zero, suc, ◌+◌, ◌<◌, ◌≤◌, ◌==◌, ◌&&◌, Bool, true, false, List, [], ◌∷◌, Option, Some, None, length, refl, sym, ap, subst, arith, if◌then◌else◌}
-use Rattle.std.specs.Prelude.{option_map, slice_index}
+use Rattle.std.proofs.Common.{◌≡◌, ◌∙◌, ℕ, zero, suc, ◌+◌, ◌-◌, ◌<◌, ◌≤◌, ◌==◌, ◌&&◌, Bool, true, false, List, [], ◌∷◌, Option, Some, None, length, refl, sym, ap, subst, arith, if◌then◌else◌}
+use Rattle.std.specs.Prelude.{max, option_map, slice_index}
 use Rattle.std.specs.BTreeMap.{insert_entry, is_at}
 use Rattle.std.specs.Map.{lookup}
 use Rattle.std.proofs.lemmas.Bool.Decides.{nat_tests}
 use Rattle.std.proofs.lemmas.Option.{same_Some, some_pair_parts}
-use Rattle.afr_base.specs.Marks.{closed_op, dirtied, is_no_marks, marks_of, no_marks, taken_back, with_marks, zero_marks}
+use Rattle.afr_base.specs.Marks.{closed_op, dirtied, is_no_marks, less_each, marks_of, no_marks, taken_back, with_marks, zero_marks}
 use Rattle.afr_base.specs.declared.ids.Gfid.{Gfid}
 use Rattle.afr_base.specs.declared.ids.Kind.{Kind}
 use Rattle.afr_base.specs.declared.ids.Kind.TheVariants.{Bytes, Attrs, Names}
@@ -241,3 +241,29 @@ none_yet p b n hm hi = record {
   marks = λ g kind. ap (λ (m : List (Gfid × AllMarks)). marks_of kind (marks_at g m)) hm ∙ no_kind kind ∙ opening_numbers kind g p.files;
   index = hi ∙ opening_listed p.files;
 }
+
+-- ---- five numbers
+abbrev five_of : List ℕ → List ℕ
+five_of xs = slice_index xs 0 ∷ slice_index xs 1 ∷ slice_index xs 2 ∷ slice_index xs 3 ∷ slice_index xs 4 ∷ []
+
+five_is : (xs : List ℕ) → length xs ≡ 5 → xs ≡ five_of xs
+five_is [] h = absurd (omega (arith, h))
+five_is (a ∷ []) h = absurd (omega (arith, h))
+five_is (a ∷ b ∷ []) h = absurd (omega (arith, h))
+five_is (a ∷ b ∷ c ∷ []) h = absurd (omega (arith, h))
+five_is (a ∷ b ∷ c ∷ d ∷ []) h = absurd (omega (arith, h))
+five_is (a ∷ b ∷ c ∷ d ∷ e ∷ []) h = refl
+five_is (a ∷ b ∷ c ∷ d ∷ e ∷ f ∷ xs) h = absurd (omega (arith, h))
+
+pub five_less : (xs ys : List ℕ) → length xs ≡ 5 → length ys ≡ 5
+    → ((slice_index xs 0 - slice_index ys 0) ∷ (slice_index xs 1 - slice_index ys 1) ∷ (slice_index xs 2 - slice_index ys 2) ∷ (slice_index xs 3 - slice_index ys 3) ∷ (slice_index xs 4 - slice_index ys 4) ∷ []) ≡ less_each xs ys
+five_less xs ys hx hy = sym (ap (λ (u : List ℕ). less_each u ys) (five_is xs hx) ∙ ap (λ (v : List ℕ). less_each (five_of xs) v) (five_is ys hy))
+
+abbrev with_dirty : Marks → ℕ → Marks
+with_dirty m d = record m { dirty = d }
+
+-- an operation that is closed where none is counted as open
+pub closed_at : (missed : List ℕ) (m : Marks) (d : ℕ) → d ≡ max m.dirty 1 → closed_op missed (with_dirty m d) ≡ closed_op missed m
+closed_at missed m d e =
+    let same : d - 1 ≡ m.dirty - 1 = omega (arith, e) in
+    ap (with_dirty (closed_op missed m)) same

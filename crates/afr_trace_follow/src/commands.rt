@@ -7,7 +7,7 @@ ghost use Rattle.afr_trace_follow.specs.Keeping.{IsNamedAt, IsNextOf};
 ghost use Rattle.afr_trace_follow.specs.Seen.{path_seen};
 
 use crate::path::Path;
-use crate::tests::{both, same_gfid, same_number};
+use crate::facts::{both, same_gfid, same_number};
 use afr_base::{Gfid, KeyId, NameId, ValueId, What};
 use afr_object::{Change, Chunk};
 use afr_plan::{Command, NamePath};

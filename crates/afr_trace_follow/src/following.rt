@@ -14,7 +14,7 @@ use crate::keeping::keeps_to;
 use crate::lists::Lists;
 use crate::renamed::keeps_to_rename;
 use crate::rounds::keeps_to_round;
-use crate::tests::{both, same_brick};
+use crate::facts::{both, same_brick};
 use afr_base::{ActorId, BrickId};
 use afr_lines::{Event, Line};
 use afr_plan::{Command, NamePath, Plan, PlannedEvent};

@@ -2,6 +2,7 @@
 #![tactic(auto)]
 
 mod commands;
+mod facts;
 mod following;
 mod keeping;
 mod lists;
@@ -11,7 +12,6 @@ mod path;
 mod renamed;
 mod rounds;
 mod stand;
-mod tests;
 
 pub use following::is_following;
 pub use lists::Lists;

@@ -1,9 +1,9 @@
 //! The changelog numbers of the copies of one brick, step by step, and which copies are listed for them. A tally has sums in their
 //! place, which say less: a number that was taken back too often stands at 0 here, and rises with the next operation.
-ghost use Rattle.std.specs.Prelude.{◌≡◌, ◌+◌, ◌-◌, ◌<◌, ◌≤◌, ◌^◌, ◌∷◌, ◌==◌, ℕ, [], List, Some, OnOk, length, reverse, slice_index, if◌then◌else◌};
+ghost use Rattle.std.specs.Prelude.{◌≡◌, ◌+◌, ◌-◌, ◌<◌, ◌≤◌, ◌^◌, ◌∷◌, ◌==◌, ℕ, [], List, Some, OnOk, length, reverse, slice_index};
 ghost use Rattle.std.specs.BTreeMap.{insert_entry};
 ghost use Rattle.std.specs.Option.{option_copied};
-ghost use Rattle.afr_base.specs.Marks.{closed_op, dirtied, less_each, marks_of, plus_missed, taken_back, with_marks};
+ghost use Rattle.afr_base.specs.Marks.{closed_op, dirtied, less_each, marks_of, taken_back, with_marks};
 ghost use Rattle.afr_object.specs.Tables.{gfid_cmp};
 ghost use Rattle.afr_plan.specs.declared.plan.Plan.{Plan};
 ghost use Rattle.afr_trace_follow.specs.Numbers.{IsNumbered, IsRoomy, listed_by, marks_at, numbers_in, or_no_marks, renumbered, request_at};
@@ -61,34 +61,17 @@ fn dirtied(marks: &Marks) -> Marks
     }
 }
 
-fn one_if(flag: bool) -> u32
-    ensures value { result ≡ (if flag then 1 else 0) }
-    ensures small { result ≤ 1 }
-{
-    if flag { 1 } else { 0 }
-}
-
-fn plus_missed(pending: &[u32; 5], missed: BrickSet) -> [u32; 5]
-    requires { (b : ℕ) → b < 5 → slice_index pending.now b < 2 ^ 32 - 1 }
-    ensures { result ≡ plus_missed 0 missed pending.now }
-{
-    [
-        pending[0] + one_if(missed.has(BrickId(0))),
-        pending[1] + one_if(missed.has(BrickId(1))),
-        pending[2] + one_if(missed.has(BrickId(2))),
-        pending[3] + one_if(missed.has(BrickId(3))),
-        pending[4] + one_if(missed.has(BrickId(4))),
-    ]
-}
-
+/// An operation is closed, also where none is counted as open.
 fn closed(marks: &Marks, missed: BrickSet) -> Marks
     requires { IsRoomy marks.now }
     ensures { result ≡ closed_op missed marks.now }
 {
-    Marks {
-        dirty: marks.dirty.saturating_sub(1),
-        pending: plus_missed(&marks.pending, missed),
-    }
+    let mut next = Marks {
+        dirty: marks.dirty.max(1),
+        pending: marks.pending,
+    };
+    next.after_op(missed);
+    next
 }
 
 fn less_each(pending: &[u32; 5], less: &[u32; 5]) -> [u32; 5]

@@ -1,11 +1,11 @@
 //! Where lines stand on a path.
-ghost use Rattle.std.specs.Prelude.{◌≡◌, ◌+◌, ◌<◌, ◌≤◌, ◌^◌, ℕ};
+ghost use Rattle.std.specs.Prelude.{◌≡◌, ◌+◌, ◌<◌, ◌≤◌, ◌^◌, ℕ, Bool};
 ghost use Rattle.afr_model.specs.Showing.{At as SpecAt, one_name, root_entry};
 ghost use Rattle.afr_model.specs.Standing.{kept_at};
 ghost use Rattle.afr_trace_follow.specs.Seen.{names_read, path_seen};
 ghost use Rattle.afr_trace_follow.specs.Stands.{path_shown};
 
-use afr_base::{Gfid, What};
+use afr_base::{ActorId, BrickId, Gfid, NameId, What};
 use afr_lines::{Line, Request, Told};
 use afr_object::Entry;
 
@@ -58,16 +58,30 @@ pub(crate) fn path_shown(line: &Line, entry: Option<Entry>, path: Path) -> Path
     ensures few { (n : ℕ) → names_read (path_seen path) ≤ n → names_read (path_seen result) ≤ n + 1 }
 {
     match line {
-        Line::Ask {
-            request: Request::ReadName { .. },
-            told: Told::Given,
-            ..
-        } => one_name(entry, path),
-        Line::Ask {
-            request: Request::ReadName { .. },
-            ..
-        } => Path::Untold,
+        Line::Ask { request, told, .. } => path_asked(request, *told, entry, path),
         _ => path,
+    }
+}
+
+fn path_asked(request: &Request, told: Told, entry: Option<Entry>, path: Path) -> Path
+    requires { names_read (path_seen path) < 2 ^ 62 }
+    ensures value { (a : ActorId) (b : BrickId) (took : Bool) → path_seen result ≡ path_shown (Line.Ask a b request.now told took) entry (path_seen path) }
+    ensures few { (n : ℕ) → names_read (path_seen path) ≤ n → names_read (path_seen result) ≤ n + 1 }
+{
+    match request {
+        Request::ReadName { .. } => name_told(told, entry, path),
+        _ => path,
+    }
+}
+
+fn name_told(told: Told, entry: Option<Entry>, path: Path) -> Path
+    requires { names_read (path_seen path) < 2 ^ 62 }
+    ensures value { (a : ActorId) (b : BrickId) (g : Gfid) (name : NameId) (took : Bool) → path_seen result ≡ path_shown (Line.Ask a b (Request.ReadName g name) told took) entry (path_seen path) }
+    ensures few { (n : ℕ) → names_read (path_seen path) ≤ n → names_read (path_seen result) ≤ n + 1 }
+{
+    match told {
+        Told::Given => one_name(entry, path),
+        _ => Path::Untold,
     }
 }
 

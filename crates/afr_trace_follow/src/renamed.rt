@@ -19,7 +19,7 @@ use crate::keeping::keeps_by;
 use crate::parts::{Second, Walked, is_again, parted, walked};
 use crate::path::Path;
 use crate::stand::{at_start, stand_of, stand_on};
-use crate::tests::{both, is_not, same_number};
+use crate::facts::{both, is_not, same_number};
 use afr_base::{ActorId, Gfid, NameId, What};
 use afr_lines::Line;
 use afr_object::Change;

@@ -9,7 +9,7 @@ ghost use Rattle.afr_model.specs.Rounds.{KeepsToIndexed, due_in, kind_within, ob
 ghost use Rattle.afr_object.specs.Repairs.{repaired};
 ghost use Rattle.afr_trace_follow.specs.Healing.{IsHealOf, IsHealing, has_line, is_index, nth_heal};
 
-use crate::tests::{both, is_not, same_brick, same_gfid};
+use crate::facts::{both, is_not, same_brick, same_gfid};
 use afr_base::{ActorId, BrickId, Gfid, Kind, What};
 use afr_lines::{Area, Line, Request};
 use afr_object::Repair;
