@@ -1,5 +1,5 @@
 -- Changes are the same where all that they carry is.
-use Rattle.std.proofs.Common.{◌≡◌, ◌∙◌, ℕ, List, Option, Some, None, refl, sym, ap}
+use Rattle.std.proofs.Common.{◌≡◌, ◌↔◌, ◌∙◌, ℕ, Bool, true, List, Option, Some, None, refl, sym, ap, subst}
 use Rattle.std.specs.Option.{option_map}
 use Rattle.std.proofs.lemmas.Option.{same_Some}
 use Rattle.afr_base.specs.declared.ids.Gfid.{Gfid}
@@ -7,6 +7,7 @@ use Rattle.afr_base.specs.declared.ids.KeyId.{KeyId}
 use Rattle.afr_base.specs.declared.ids.NameId.{NameId}
 use Rattle.afr_base.specs.declared.ids.ValueId.{ValueId}
 use Rattle.afr_base.specs.declared.ids.What.{What}
+use Rattle.afr_model.specs.Commands.{last_of}
 use Rattle.afr_object.specs.declared.change.Change.{Change}
 use Rattle.afr_object.specs.declared.change.Change.TheVariants.{Cut, Make, Remove, SetAttr, Write}
 
@@ -35,3 +36,14 @@ pub last_none : (f : NameId → Change) (o : Option NameId) (change : Change) �
 last_none f o change h e =
     let no : None ≡ Some change = ap (option_map f) h ∙ e in
     absurd (cc no)
+
+-- the same path, and the same object
+pub made_named : (g made new : Gfid) (slice path : List NameId) (what : What) (change : Change) (r : Bool) → made ≡ new → slice ≡ path → ((r ≡ true) ↔ (option_map (λ name. Make g name made what) (last_of slice) ≡ Some change))
+    → ((r ≡ true) ↔ (option_map (λ name. Make g name new what) (last_of path) ≡ Some change))
+made_named g made new slice path what change r hm hs k =
+    subst (λ (l : List NameId). (r ≡ true) ↔ (option_map (λ name. Make g name new what) (last_of l) ≡ Some change)) hs
+    (subst (λ (m : Gfid). (r ≡ true) ↔ (option_map (λ name. Make g name m what) (last_of slice) ≡ Some change)) hm k)
+
+pub removed_named : (g : Gfid) (slice path : List NameId) (what : What) (change : Change) (r : Bool) → slice ≡ path → ((r ≡ true) ↔ (option_map (λ name. Remove g name what) (last_of slice) ≡ Some change))
+    → ((r ≡ true) ↔ (option_map (λ name. Remove g name what) (last_of path) ≡ Some change))
+removed_named g slice path what change r hs k = subst (λ (l : List NameId). (r ≡ true) ↔ (option_map (λ name. Remove g name what) (last_of l) ≡ Some change)) hs k

@@ -138,3 +138,8 @@ rename_command p c line at w to e = absurd (cc e)
 pub plain_command : (p : Plan) (c : Command) (line : Line) (at : ℕ) (w : Work) → None ≡ new_path c → (KeepsTo p c line at w → KeepsToCommand p c line at w) × (KeepsToCommand p c line at w → KeepsTo p c line at w)
 plain_command p (Rename from to) line at w e = absurd (cc e)
 plain_command p c line at w e = (λ k. k, λ k. k)
+
+-- the same two paths
+pub same_paths : (p : Plan) (line : Line) (at : ℕ) (w : Work) (r : Bool) (one from other to : List NameId) → one ≡ from → other ≡ to → ((r ≡ true) ↔ KeepsToRename p one other line at w) → ((r ≡ true) ↔ KeepsToRename p from to line at w)
+same_paths p line at w r one from other to hf ht k =
+    subst (λ (l : List NameId). (r ≡ true) ↔ KeepsToRename p from l line at w) ht (subst (λ (l : List NameId). (r ≡ true) ↔ KeepsToRename p l other line at w) hf k)
