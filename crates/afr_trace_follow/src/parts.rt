@@ -111,7 +111,7 @@ fn walked_more(a: ActorId, line: &Line, names: usize, position: usize, was: Walk
 }
 
 /// How many names the present work has asked, and where it had asked so many of them.
-pub(crate) fn walked(log: &[Line], a: ActorId, names: usize) -> Walked
+pub(crate) fn names_walked(log: &[Line], a: ActorId, names: usize) -> Walked
     requires { length log.now < 2147483648 }
     ensures { IsWalked names a.0 (reverse log.now) result }
 {

@@ -16,7 +16,7 @@ ghost use Rattle.afr_trace_tally.specs.Tally.{IsTally};
 
 use crate::commands::{makes_last, removes_last};
 use crate::keeping::keeps_by;
-use crate::parts::{Second, Walked, is_again, parted, walked};
+use crate::parts::{Second, Walked, is_again, names_walked, parted};
 use crate::path::Path;
 use crate::stand::{at_start, stand_of, stand_on};
 use crate::facts::{both, is_not, same_number};
@@ -143,7 +143,7 @@ fn keeps_to_make(
 {
     let upto = second.start;
     let names = to.len().saturating_sub(1);
-    let first = walked(&log[..upto], a, from.len());
+    let first = names_walked(&log[..upto], a, from.len());
     let make = stand_on(tally, plan, log, a, first.end, upto, names, at_start());
     let path = stand_of(tally, plan, log, a, walk.end, from.len()).path;
     let file = file_at(path, from.len());
@@ -196,7 +196,7 @@ fn keeps_to_removal(
     ensures { (result ≡ true) ↔ KeepsTo plan.now (Command.Unlink from.now) line.now (length log.now) (the_removal from.now (work a.0 (reverse log.now))) }
 {
     let names = from.len().saturating_sub(1);
-    let dir = walked(log, a, names);
+    let dir = names_walked(log, a, names);
     let walk = stand_of(tally, plan, log, a, dir.end, names);
     let removal = stand_on(tally, plan, log, a, second.start, log.len(), names, walk);
     let begins = begins_removal(line, removal.begun, removal.place, from);
@@ -218,7 +218,7 @@ pub(crate) fn keeps_to_rename(
     requires few { length log.now < 2147483648 }
     ensures { (result ≡ true) ↔ KeepsToRename plan.now from.now to.now line.now (length log.now) (work a.0 (reverse log.now)) }
 {
-    let walk = walked(log, a, from.len());
+    let walk = names_walked(log, a, from.len());
     let second = parted(log, a);
     if is_again(line, second) {
         keeps_to_removal(tally, plan, log, a, from, line, second)

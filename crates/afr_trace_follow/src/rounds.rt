@@ -97,7 +97,7 @@ fn healing_more(a: ActorId, line: &Line, position: usize, was: Healing) -> Heali
     }
 }
 
-fn healing(log: &[Line], a: ActorId) -> Healing
+fn heals_made(log: &[Line], a: ActorId) -> Healing
     requires { length log.now < 2147483648 }
     ensures { IsHealing a.0 (reverse log.now) result }
 {
@@ -263,7 +263,7 @@ pub(crate) fn keeps_to_round(
     requires { length log.now < 2147483648 }
     ensures { (result ≡ true) ↔ KeepsToIndexed b list.now line.now (work a.0 (reverse log.now)) }
 {
-    let at = healing(log, a);
+    let at = heals_made(log, a);
     let due = nth_heal(list, at.healed);
     keeps_to_heals(b, due, at.begun, line)
 }

@@ -15,8 +15,8 @@ returns c =
     let walk : IsAt c.args.plan.now (length c.args.from.now) (the_walk c.args.from.now all) c.stand_of.result =
     walk_is (λ (u : Work). IsAt c.args.plan.now (length c.args.from.now) u c.stand_of.result) (length c.args.from.now) c.args.a.0 c.args.walk.end c.args.log.now c.requires.walk.end c.stand_of.ensures.at in
     let v : IsAt c.args.plan.now (length c.args.to.now - 1) w c.stand_on-make.result =
-    made_is (λ (u : Work). IsAt c.args.plan.now (length c.args.to.now - 1) u c.stand_on-make.result) (length c.args.from.now) c.args.a.0 c.args.second.start c.walked-first.result.end c.args.log.now c.requires.second.start
-    c.walked-first.ensures.end (c.stand_on-make.ensures.at [] (c.at_start.ensures.at c.args.plan.now (length c.args.to.now - 1))) in
+    made_is (λ (u : Work). IsAt c.args.plan.now (length c.args.to.now - 1) u c.stand_on-make.result) (length c.args.from.now) c.args.a.0 c.args.second.start c.names_walked-first.result.end c.args.log.now c.requires.second.start
+    c.names_walked-first.ensures.end (c.stand_on-make.ensures.at [] (c.at_start.ensures.at c.args.plan.now (length c.args.to.now - 1))) in
     as_well c.keeps_by.result _ _
     (make_keeps c.args.plan.now c.args.from.now c.args.to.now c.args.line.now (length c.args.log.now) all (path_seen c.stand_on-make.result.path) c.begins_link-begins.result v.path
     (λ change e.

@@ -14,7 +14,7 @@ returns c =
     let names = length c.args.from.now - 1 in
     let w = the_removal c.args.from.now all in
     let walk : IsAt c.args.plan.now names (upto_names names all) c.stand_of-walk.result =
-    walk_is (λ (u : Work). IsAt c.args.plan.now names u c.stand_of-walk.result) names c.args.a.0 c.walked-dir.result.end c.args.log.now c.walked-dir.ensures.end c.stand_of-walk.ensures.at in
+    walk_is (λ (u : Work). IsAt c.args.plan.now names u c.stand_of-walk.result) names c.args.a.0 c.names_walked-dir.result.end c.args.log.now c.names_walked-dir.ensures.end c.stand_of-walk.ensures.at in
     let v : IsAt c.args.plan.now names w c.stand_on-removal.result =
     removal_is (λ (u : Work). IsAt c.args.plan.now names u c.stand_on-removal.result) c.args.a.0 c.args.second.start _ c.args.log.now (upto_names names all) c.requires.second.start refl
     (c.stand_on-removal.ensures.at (upto_names names all) walk) in

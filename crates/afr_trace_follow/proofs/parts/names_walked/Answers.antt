@@ -3,7 +3,7 @@ use Rattle.afr_lines.specs.declared.line.Line.{Line}
 use Rattle.afr_trace_follow.proofs.LogLemmas.{length_before, of_whole, one_more}
 use Rattle.afr_trace_follow.proofs.PartLemmas.{none_walked}
 use Rattle.afr_trace_follow.specs.Parts.{IsWalked}
-use Rattle.afr_trace_follow.proofs.parts.walked.Goals as goal
+use Rattle.afr_trace_follow.proofs.parts.names_walked.Goals as goal
 
 pub loop-position-init : goal.loop-position-init
 loop-position-init c = none_walked c.args.names c.args.a.0 _ refl refl

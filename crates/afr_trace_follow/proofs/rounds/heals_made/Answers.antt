@@ -3,7 +3,7 @@ use Rattle.afr_lines.specs.declared.line.Line.{Line}
 use Rattle.afr_trace_follow.proofs.HealLemmas.{none_healing}
 use Rattle.afr_trace_follow.proofs.LogLemmas.{length_before, of_whole, one_more}
 use Rattle.afr_trace_follow.specs.Healing.{IsHealing}
-use Rattle.afr_trace_follow.proofs.rounds.healing.Goals as goal
+use Rattle.afr_trace_follow.proofs.rounds.heals_made.Goals as goal
 
 pub loop-position-init : goal.loop-position-init
 loop-position-init c = none_healing c.args.a.0 _ refl refl
