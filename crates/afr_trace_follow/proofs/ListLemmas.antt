@@ -15,6 +15,7 @@ use Rattle.afr_object.specs.Indexed.{index_of}
 use Rattle.afr_plan.specs.declared.plan.Plan.{Plan}
 use Rattle.afr_trace_follow.proofs.PartLemmas.{work_ended, work_moved, work_passed}
 use Rattle.afr_trace_follow.specs.Lists.{AreGiven, IsGivenTo, index_given}
+use Rattle.afr_trace_tally.specs.Tally.{AsksKnown}
 
 -- another's line
 pub given_passed : (p : Plan) (i : ℕ) (line : Line) (older : List Line) (list : List (Gfid × What)) → is_of (17 + i) line ≡ false → IsGivenTo p older i list → IsGivenTo p (line ∷ older) i list
@@ -50,3 +51,8 @@ pub given_at : (p : Plan) (a : ℕ) (log : List Line) (given : List (List (Gfid 
 given_at p a log given list low v h =
     let same : 17 + (a - 17) ≡ a = omega (arith, low) in
     v.each (a - 17) list h ∙ ap (λ (n : ℕ). listed_by p (work n log)) same
+
+-- the brick that gave an index is one of five
+pub known_index : (line : Line) (b : BrickId) → AsksKnown line → Some b ≡ index_given line → b.0 < 5
+known_index (Ask a y Index Given took) b known e = subst (λ (x : BrickId). x.0 < 5) (sym (same_Some b y e)) known.1
+known_index line b known e = absurd (cc e)

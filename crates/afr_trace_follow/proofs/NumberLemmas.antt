@@ -34,7 +34,7 @@ use Rattle.afr_object.specs.declared.change.Change.TheVariants.{Make}
 use Rattle.afr_object.specs.declared.entry.View.{View}
 use Rattle.afr_plan.specs.declared.plan.Plan.{Plan}
 use Rattle.afr_trace_follow.proofs.RisingLemmas.{sorted}
-use Rattle.afr_trace_follow.specs.Numbers.{IsNumbered, IsRoomy, listed_by, marks_at, numbers_in, or_no_marks, renumbered, request_at}
+use Rattle.afr_trace_follow.specs.Numbers.{IsFound, IsNumbered, IsRoomy, listed_by, marks_at, numbers_in, or_no_marks, renumbered, request_at}
 use Rattle.afr_trace_follow.specs.declared.numbers.Numbered.{Numbered}
 use Rattle.afr_trace_tables.proofs.BareLaws.{copy_bare}
 use Rattle.afr_trace_tables.proofs.PlainLaws.{now_bare}
@@ -120,12 +120,6 @@ tables_numbered : (p : Plan) (b : ℕ) (line : Line) (older : List Line) (r : Re
 tables_numbered p b line older r h k e n = tables_asked p b line older r e ∙ asked_is (keeps_bytes p b) r older (held_before p older) (holds p older b) h k n
 
 -- ---- what a tally finds
--- an object that a look shows, as the brick has it
-pub record IsFound (p : Plan) (log : List Line) (b : ℕ) (h : Gfid) (what : What) : Type 0 where
-  pub object : Object
-  pub found : copy_at h (holds p log b) ≡ Some object
-  pub same : what ≡ object.what
-
 look_bare : (p : Plan) (log : List Line) (b : ℕ) (h : Gfid) (o : Option View) → o ≡ option_map view_of (copy_at h ((plain_tables p log).now b)) → o ≡ option_map view_of (option_map bare_object (copy_at h (holds p log b)))
 look_bare p log b h o e = e ∙ ap (λ (t : Table). option_map view_of (copy_at h t)) (now_bare p log b) ∙ ap (option_map view_of) (copy_bare h (holds p log b))
 

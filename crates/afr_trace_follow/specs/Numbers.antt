@@ -16,7 +16,8 @@ use Rattle.afr_lines.specs.declared.request.Request.{Request}
 use Rattle.afr_lines.specs.declared.request.Request.TheVariants.{Post, Pre, Settle}
 use Rattle.afr_model.specs.Tables.{holds}
 use Rattle.afr_object.specs.Indexed.{index_of}
-use Rattle.afr_object.specs.Tables.{gfid_cmp}
+use Rattle.afr_object.specs.Object.{Object}
+use Rattle.afr_object.specs.Tables.{copy_at, gfid_cmp}
 use Rattle.afr_plan.specs.declared.plan.Plan.{Plan}
 use Rattle.afr_trace_follow.specs.declared.numbers.Numbered.{Numbered}
 
@@ -61,3 +62,9 @@ listed_by g what all listed = if is_no_marks all then remove_entry (is_at (gfid_
 pub record IsNumbered (p : Plan) (log : List Line) (b : ℕ) (n : Numbered) : Type 0 where
   pub marks : (g : Gfid) (kind : Kind) → marks_of kind (marks_at g n.marks) ≡ now_at p log b g kind
   pub index : n.index ≡ index_of (holds p log b)
+
+-- an object that a look shows, as the brick has it
+pub record IsFound (p : Plan) (log : List Line) (b : ℕ) (h : Gfid) (what : What) : Type 0 where
+  pub object : Object
+  pub found : copy_at h (holds p log b) ≡ Some object
+  pub same : what ≡ object.what

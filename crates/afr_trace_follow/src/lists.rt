@@ -71,7 +71,23 @@ fn listed(bricks: &[Numbered], plan: &Plan, older: &[Line], b: BrickId) -> Resul
 {
     let _plan = plan;
     let _older = older;
-    bricks[b.0 as usize].index.list()
+    let numbered = &bricks[b.0 as usize];
+    numbered.index.list()
+}
+
+fn give_index(
+    list: &mut IndexList,
+    bricks: &[Numbered],
+    plan: &Plan,
+    older: &[Line],
+    b: BrickId,
+) -> Result<(), NoMemory>
+    requires are { AreNumbered plan.now (reverse older.now) bricks.now }
+    requires brick { b.0 < 5 }
+    ensures ok { OnOk result (list.new ≡ index_of (holds plan.now (reverse older.now) b.0)) }
+{
+    *list = listed(bricks, plan, older, b)?;
+    Ok(())
 }
 
 /// The list of a healer's present round after one more line: its End line begins a round anew, and the answer to its question for an
@@ -98,11 +114,10 @@ fn give(
         *list = List::new(alloc);
         return Ok(());
     }
-    let Some(b) = index_given(line) else {
-        return Ok(());
-    };
-    *list = listed(bricks, plan, older, b)?;
-    Ok(())
+    match index_given(line) {
+        Some(b) => give_index(list, bricks, plan, older, b),
+        None => Ok(()),
+    }
 }
 
 fn give_all(
@@ -182,6 +197,7 @@ impl Lists {
     {
         let _plan = plan;
         let _log = log;
-        self.given[a.0 as usize - 17].as_slice()
+        let list = &self.given[a.0 as usize - 17];
+        list.as_slice()
     }
 }

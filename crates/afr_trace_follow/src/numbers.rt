@@ -6,7 +6,7 @@ ghost use Rattle.std.specs.Option.{option_copied};
 ghost use Rattle.afr_base.specs.Marks.{closed_op, dirtied, less_each, marks_of, taken_back, with_marks};
 ghost use Rattle.afr_object.specs.Tables.{gfid_cmp};
 ghost use Rattle.afr_plan.specs.declared.plan.Plan.{Plan};
-ghost use Rattle.afr_trace_follow.specs.Numbers.{IsNumbered, IsRoomy, listed_by, marks_at, numbers_in, or_no_marks, renumbered, request_at};
+ghost use Rattle.afr_trace_follow.specs.Numbers.{IsFound, IsNumbered, IsRoomy, listed_by, marks_at, numbers_in, or_no_marks, renumbered, request_at};
 ghost use Rattle.afr_trace_tally.specs.Tally.{IsTally};
 
 use afr_base::{AllMarks, BrickId, BrickSet, Gfid, Kind, Marks, NoMemory, What};
@@ -167,7 +167,36 @@ fn renumber(all: AllMarks, kind: Kind, request: &Request) -> AllMarks
     all
 }
 
-/// The numbers after a request to this brick that changes those of a kind of an object.
+/// The numbers after a request to this brick that changes those of a kind of a copy.
+fn number_copy(
+    n: &mut Numbered,
+    plan: &Plan,
+    b: BrickId,
+    line: &Line,
+    older: &[Line],
+    g: Gfid,
+    kind: Kind,
+    request: &Request,
+    what: What,
+) -> Result<(), NoMemory>
+    requires was { IsNumbered plan.now (reverse older.now) b.0 n.old }
+    requires few { length older.now < 2147483648 }
+    requires asked { request_at b.0 line.now ≡ Some request.now }
+    requires numbers { numbers_in request.now ≡ Some (g, kind) }
+    requires found { IsFound plan.now (reverse older.now) b.0 g what }
+    ensures ok { OnOk result (IsNumbered plan.now (line.now ∷ reverse older.now) b.0 n.new) }
+{
+    let _plan = plan;
+    let _b = b;
+    let _line = line;
+    let _older = older;
+    let all = renumber(marks_at(&n.marks, g), kind, request);
+    put_marks(&mut n.marks, g, all)?;
+    relist(&mut n.index, g, what, &all)?;
+    Ok(())
+}
+
+/// The same of an object, which the brick may lack.
 fn number(
     n: &mut Numbered,
     tally: &Tally,
@@ -187,14 +216,33 @@ fn number(
     requires numbers { numbers_in request.now ≡ Some (g, kind) }
     ensures ok { OnOk result (IsNumbered plan.now (line.now ∷ reverse older.now) b.0 n.new) }
 {
-    let _line = line;
-    let Some(view) = tally.look(plan, older, b, g) else {
-        return Ok(());
-    };
-    let all = renumber(marks_at(&n.marks, g), kind, request);
-    put_marks(&mut n.marks, g, all)?;
-    relist(&mut n.index, g, view.what, &all)?;
-    Ok(())
+    match tally.look(plan, older, b, g) {
+        Some(view) => number_copy(n, plan, b, line, older, g, kind, request, view.what),
+        None => Ok(()),
+    }
+}
+
+/// The numbers of a brick after it carried a request out.
+fn number_asked(
+    n: &mut Numbered,
+    tally: &Tally,
+    plan: &Plan,
+    b: BrickId,
+    line: &Line,
+    older: &[Line],
+    request: &Request,
+) -> Result<(), NoMemory>
+    requires was { IsNumbered plan.now (reverse older.now) b.0 n.old }
+    requires tally { IsTally plan.now (reverse older.now) tally.now }
+    requires brick { b.0 < 5 }
+    requires few { length older.now < 2147483648 }
+    requires asked { request_at b.0 line.now ≡ Some request.now }
+    ensures ok { OnOk result (IsNumbered plan.now (line.now ∷ reverse older.now) b.0 n.new) }
+{
+    match numbers_in(request) {
+        Some((g, kind)) => number(n, tally, plan, b, line, older, g, kind, request),
+        None => Ok(()),
+    }
 }
 
 /// The numbers of a brick after one more line.
@@ -212,11 +260,8 @@ pub(crate) fn number_more(
     requires few { length older.now < 2147483648 }
     ensures ok { OnOk result (IsNumbered plan.now (line.now ∷ reverse older.now) b.0 n.new) }
 {
-    let Some(request) = request_at(b, line) else {
-        return Ok(());
-    };
-    let Some((g, kind)) = numbers_in(request) else {
-        return Ok(());
-    };
-    number(n, tally, plan, b, line, older, g, kind, request)
+    match request_at(b, line) {
+        Some(request) => number_asked(n, tally, plan, b, line, older, request),
+        None => Ok(()),
+    }
 }
