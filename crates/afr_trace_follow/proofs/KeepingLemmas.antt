@@ -32,7 +32,7 @@ as_well r P Q h e = (λ yes. h.0 (e.0 yes), λ q. e.1 (h.1 q))
 
 -- a test of nothing else
 pub never : (r : Bool) (P : Type 0) → r ≡ false → (P → ⊥) → ((r ≡ true) ↔ P)
-never r P no h = (λ yes. absurd (cc (sym no ∙ yes)), λ p. absurd (h p))
+never r P e h = (λ k. absurd (cc (sym e ∙ k)), λ p. absurd (h p))
 
 -- both tests pass where both facts hold
 pub both : (r s t : Bool) (P Q : Type 0) → r ≡ (s && t) → ((s ≡ true) ↔ P) → ((t ≡ true) ↔ Q) → ((r ≡ true) ↔ (P × Q))
@@ -69,7 +69,7 @@ next_here read object names g name =
     )
 
 pub no_next : (path : Path) (names : List NameId) (g : Gfid) (name : NameId) → ((read : ℕ) (object : Entry) → path ≡ At read object → ⊥) → IsNextOf path names g name → ⊥
-no_next path names g name no k = no k.read k.object k.stands
+no_next path names g name nowhere k = nowhere k.read k.object k.stands
 
 pub named_here : (read : ℕ) (object : Entry) (c : Command) (at : ℕ) (change : Change)
     → ((read ≡ steps_of c) × (change_named object.gfid at c ≡ Some change) → IsNamedAt (At read object) c at change) × (IsNamedAt (At read object) c at change → (read ≡ steps_of c) × (change_named object.gfid at c ≡ Some change))
@@ -82,7 +82,7 @@ named_here read object c at change =
     )
 
 pub no_named : (path : Path) (c : Command) (at : ℕ) (change : Change) → ((read : ℕ) (object : Entry) → path ≡ At read object → ⊥) → IsNamedAt path c at change → ⊥
-no_named path c at change no k = no (steps_of c) k.object k.led
+no_named path c at change nowhere k = nowhere (steps_of c) k.object k.led
 
 pub link_here : (file : Gfid) (read : ℕ) (dir : Entry) (to : List NameId) (change : Change)
     → ((read ≡ length to - 1) × (option_map (λ name. changes.Make dir.gfid name file File) (last_of to) ≡ Some change) → IsLinkAt file (At read dir) to change)
@@ -96,7 +96,7 @@ link_here file read dir to change =
     )
 
 pub no_link : (file : Gfid) (path : Path) (to : List NameId) (change : Change) → ((read : ℕ) (object : Entry) → path ≡ At read object → ⊥) → IsLinkAt file path to change → ⊥
-no_link file path to change no k = no (length to - 1) k.dir k.led
+no_link file path to change nowhere k = nowhere (length to - 1) k.dir k.led
 
 -- a path that has led nowhere
 pub no_name_there : (read : ℕ) (object : Entry) → NoName ≡ At read object → ⊥
@@ -122,12 +122,12 @@ file_here read names object g h =
     )
 
 pub no_file : (read names : ℕ) (object : Entry) (g : Gfid) → ((read ≡ names) × (object.what ≡ File) → ⊥) → (None ≡ Some g) ↔ (At read object ≡ At names (record { gfid = g; what = File }))
-no_file read names object g no =
+no_file read names object g other =
     (
       λ e. absurd (cc e),
       λ e.
       let s = at_parts read names object (record { gfid = g; what = File }) e in
-      absurd (no (s.0, ap (λ (x : Entry). x.what) s.1)),
+      absurd (other (s.0, ap (λ (x : Entry). x.what) s.1)),
     )
 
 -- ---- one path
@@ -161,10 +161,10 @@ keeps_is p c line at w path names begins hp hn hb = (λ k. tt, λ k. tt)
 
 -- the place of a command, by where its work stands
 pub place_path : (p : Plan) (c : Command) (w : Work) (s : Stand) → IsAt p (steps_of c) w s → is_on_name c ≡ false → path_seen s.path ≡ place_by p c w
-place_path p c w s v no = v.path ∙ sym (ap (λ (t : Bool). if t then path_upto (steps_of c) p w else path_by p w) no)
+place_path p c w s v e = v.path ∙ sym (ap (λ (t : Bool). if t then path_upto (steps_of c) p w else path_by p w) e)
 
 pub place_name : (p : Plan) (c : Command) (w : Work) (s : Stand) → IsAt p (steps_of c) w s → is_on_name c ≡ true → path_seen s.place ≡ place_by p c w
-place_name p c w s v yes = v.place ∙ sym (ap (λ (t : Bool). if t then path_upto (steps_of c) p w else path_by p w) yes)
+place_name p c w s v e = v.place ∙ sym (ap (λ (t : Bool). if t then path_upto (steps_of c) p w else path_by p w) e)
 
 -- ---- what a line begins
 -- a test of the change that a line begins is one of any change that it begins

@@ -37,13 +37,13 @@ module _ (a : ℕ) (line : Line) (older : List Line) where
 -- a line that counts, and one that doesn't
 pub from_yes : (P : Work → Type 0) (a from position : ℕ) (line : Line) (older : List Line) (w : Work) (r : Bool) → r ≡ (is_of a line && nat_le from position) → position ≡ length older → r ≡ true → P ((line, older) ∷ w)
     → P (line_from a from line older w)
-from_yes P a from position line older w r e n yes h =
-    let test : (is_of a line && nat_le from (length older)) ≡ true = ap (λ (m : ℕ). is_of a line && nat_le from m) (sym n) ∙ sym e ∙ yes in
+from_yes P a from position line older w r e n here h =
+    let test : (is_of a line && nat_le from (length older)) ≡ true = ap (λ (m : ℕ). is_of a line && nat_le from m) (sym n) ∙ sym e ∙ here in
     subst P (sym (ap (λ (t : Bool). if t then (line, older) ∷ w else w) test)) h
 
 pub from_no : (P : Work → Type 0) (a from position : ℕ) (line : Line) (older : List Line) (w : Work) (r : Bool) → r ≡ (is_of a line && nat_le from position) → position ≡ length older → r ≡ false → P w → P (line_from a from line older w)
-from_no P a from position line older w r e n no h =
-    let test : (is_of a line && nat_le from (length older)) ≡ false = ap (λ (m : ℕ). is_of a line && nat_le from m) (sym n) ∙ sym e ∙ no in
+from_no P a from position line older w r e n other h =
+    let test : (is_of a line && nat_le from (length older)) ≡ false = ap (λ (m : ℕ). is_of a line && nat_le from m) (sym n) ∙ sym e ∙ other in
     subst P (sym (ap (λ (t : Bool). if t then (line, older) ∷ w else w) test)) h
 
 -- a line before a list of lines
@@ -173,10 +173,15 @@ after_is k a (line ∷ older) = by (is_of a line) (is_end line) refl refl (leb_t
           else (if nat_le k (names_asked (work a older)) then names_end k a older else suc (length older))) (line ∷ older)
         ≡ after_names k (if of then (if end then [] else (line, older) ∷ work a older) else work a older)
     by true true h e s more = none
-    by true false h e (inl s) more = rw s.0 (first_of a (names_end k a older) line older h (end_within k a older) ∙ ap (λ (w : Work). (line, older) ∷ w) more)
-    by true false h e (inr s) more = rw s.0 none
-    by false end h e (inl s) more = rw s.0 (not_of a (names_end k a older) line older h ∙ more)
-    by false end h e (inr s) more = rw s.0 (none ∙ sym (after_none k (work a older) s.1))
+    by true false h e (inl s) more =
+        ap (λ (t : Bool). lines_from a (if t then names_end k a older else suc (length older)) (line ∷ older)) s.0 ∙ first_of a (names_end k a older) line older h (end_within k a older)
+        ∙ ap (λ (w : Work). (line, older) ∷ w) more ∙ sym (ap (λ (t : Bool). if t then (line, older) ∷ after_names k (work a older) else []) s.0)
+    by true false h e (inr s) more =
+        ap (λ (t : Bool). lines_from a (if t then names_end k a older else suc (length older)) (line ∷ older)) s.0 ∙ none ∙ sym (ap (λ (t : Bool). if t then (line, older) ∷ after_names k (work a older) else []) s.0)
+    by false end h e (inl s) more =
+        ap (λ (t : Bool). lines_from a (if t then names_end k a older else suc (length older)) (line ∷ older)) s.0 ∙ not_of a (names_end k a older) line older h ∙ more
+    by false end h e (inr s) more =
+        ap (λ (t : Bool). lines_from a (if t then names_end k a older else suc (length older)) (line ∷ older)) s.0 ∙ none ∙ sym (after_none k (work a older) s.1)
 
 -- what is kept of the names, one line more
 names_few : (of end asks : Bool) (n len : ℕ) → n ≤ len → (if of then (if end then 0 else (if asks then n + 1 else n)) else n) ≤ suc len

@@ -30,17 +30,17 @@ use Rattle.afr_trace_follow.specs.Parts.{lines_from, names_end, second_start}
 
 -- ---- which part
 pub removes : (from : List NameId) (line : Line) (w : Work) (r : Bool) → r ≡ is_again line w → r ≡ true → part_at from line w ≡ Removes
-removes from line w r e yes = ap (λ (t : Bool). if t then Removes else (if nat_lt (names_asked w) (length from) then Walks else Makes)) (sym e ∙ yes)
+removes from line w r e here = ap (λ (t : Bool). if t then Removes else (if nat_lt (names_asked w) (length from) then Walks else Makes)) (sym e ∙ here)
 
 pub walks : (from : List NameId) (line : Line) (w : Work) (r : Bool) (n : ℕ) → r ≡ is_again line w → r ≡ false → n ≡ names_asked w → n < length from → part_at from line w ≡ Walks
-walks from line w r n e no h l =
+walks from line w r n e first h l =
     let less : nat_lt (names_asked w) (length from) ≡ true = grind (arith, nat_tests, h, l) in
-    ap (λ (t : Bool). if t then Removes else (if nat_lt (names_asked w) (length from) then Walks else Makes)) (sym e ∙ no) ∙ ap (λ (t : Bool). if t then Walks else Makes) less
+    ap (λ (t : Bool). if t then Removes else (if nat_lt (names_asked w) (length from) then Walks else Makes)) (sym e ∙ first) ∙ ap (λ (t : Bool). if t then Walks else Makes) less
 
 pub makes : (from : List NameId) (line : Line) (w : Work) (r : Bool) (n : ℕ) → r ≡ is_again line w → r ≡ false → n ≡ names_asked w → length from ≤ n → part_at from line w ≡ Makes
-makes from line w r n e no h l =
+makes from line w r n e first h l =
     let more : nat_lt (names_asked w) (length from) ≡ false = grind (arith, nat_tests, h, l) in
-    ap (λ (t : Bool). if t then Removes else (if nat_lt (names_asked w) (length from) then Walks else Makes)) (sym e ∙ no) ∙ ap (λ (t : Bool). if t then Walks else Makes) more
+    ap (λ (t : Bool). if t then Removes else (if nat_lt (names_asked w) (length from) then Walks else Makes)) (sym e ∙ first) ∙ ap (λ (t : Bool). if t then Walks else Makes) more
 
 -- a test of what the part keeps to is one of the rename
 pub of_part : (x : Part) (p : Plan) (from to : List NameId) (line : Line) (at : ℕ) (w : Work) (r : Bool) → part_at from line w ≡ x → ((r ≡ true) ↔ KeepsToPart x p from to line at w) → ((r ≡ true) ↔ KeepsToRename p from to line at w)
@@ -78,7 +78,7 @@ removal_is P a start upto log w hs hu h =
 -- ---- what a part keeps to
 -- a walk begins nothing
 pub no_change : (p : Plan) (from : List NameId) (w : Work) (at : ℕ) (change : Change) (begins : Bool) → begins ≡ false → ((begins ≡ true) ↔ ((has begins_attempt w ≡ false) × Names p (command.Stat from) w at change))
-no_change p from w at change begins no = (λ yes. absurd (cc (sym no ∙ yes)), λ k. none k.1.named)
+no_change p from w at change begins e = (λ h. absurd (cc (sym e ∙ h)), λ k. none k.1.named)
   where
     none : None ≡ Some change → begins ≡ true
     none e = absurd (cc e)

@@ -1,5 +1,5 @@
 //! Tests of single facts, and of two.
-ghost use Rattle.std.specs.Prelude.{◌≡◌, ◌↔◌, ◌&&◌, false, true};
+ghost use Rattle.std.specs.Prelude.{◌≡◌, ◌↔◌, ◌&&◌, ◌||◌, false, true};
 
 use afr_base::{BrickId, Gfid};
 
@@ -7,6 +7,12 @@ pub(crate) fn both(one: bool, other: bool) -> bool
     ensures { result ≡ (one && other) }
 {
     one && other
+}
+
+pub(crate) fn either(one: bool, other: bool) -> bool
+    ensures { result ≡ (one || other) }
+{
+    one || other
 }
 
 pub(crate) fn is_not(flag: bool) -> bool

@@ -9,6 +9,7 @@ ghost use Rattle.afr_trace_follow.specs.Stands.{IsAt, IsFew, path_shown};
 ghost use Rattle.afr_trace_tally.specs.Tally.{IsTally};
 ghost use Rattle.afr_plan.specs.declared.plan.Plan.{Plan};
 
+use crate::facts::either;
 use crate::parts::work_start;
 use crate::path::{Path, at_root, kept_at, path_shown};
 use afr_base::ActorId;
@@ -58,7 +59,7 @@ fn stand_after(line: &Line, entry: Option<Entry>, names: usize, was: Stand) -> S
     Stand {
         path: path_shown(line, entry, was.path),
         place: kept_at(names, was.place, next),
-        begun: begins_attempt(line) || was.begun,
+        begun: either(begins_attempt(line), was.begun),
     }
 }
 

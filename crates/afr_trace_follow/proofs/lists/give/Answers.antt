@@ -8,7 +8,7 @@ returns-then-not-is_of c = record { ok = given_passed c.args.plan.now c.args.i c
 
 pub returns-then-is_end : goal.returns-then-is_end
 returns-then-is_end c = record {
-  ok = given_ended c.args.plan.now c.args.i c.args.line.now (reverse c.args.older.now) _ (sym c.is_of.ensures ∙ c.if-not-is_of.false) (sym c.is_end.ensures ∙ c.if-is_end.true) c.new-list.ensures;
+  ok = given_ended c.args.plan.now c.args.i c.args.line.now (reverse c.args.older.now) _ (sym c.is_of.ensures ∙ c.if-not-is_of.false) (sym c.is_end.ensures ∙ c.if-is_end.true) c.new.ensures;
 }
 
 pub give_index-requires-clause-brick : goal.give_index-requires-clause-brick

@@ -13,14 +13,14 @@ returns-then-is_again c =
     of_part Removes c.args.plan.now c.args.from.now c.args.to.now c.args.line.now (length c.args.log.now) w c.keeps_to_removal.result
     (removes c.args.from.now c.args.line.now w c.is_again.result (again_by c.args.a.0 c.args.line.now (reverse c.args.log.now) _ c.parted-second.ensures c.is_again.result c.is_again.ensures) c.if-is_again.true) c.keeps_to_removal.ensures
 
-pub returns-then-walk-names : goal.returns-then-walk-names
-returns-then-walk-names c =
+pub returns-then-walk-from : goal.returns-then-walk-from
+returns-then-walk-from c =
     let w = work c.args.a.0 (reverse c.args.log.now) in
     of_part Walks c.args.plan.now c.args.from.now c.args.to.now c.args.line.now (length c.args.log.now) w c.keeps_to_walk.result
-    (walks c.args.from.now c.args.line.now w c.is_again.result _ (again_by c.args.a.0 c.args.line.now (reverse c.args.log.now) _ c.parted-second.ensures c.is_again.result c.is_again.ensures) c.if-is_again.false c.names_walked-walk.ensures.names c.if-walk-names.true) c.keeps_to_walk.ensures
+    (walks c.args.from.now c.args.line.now w c.is_again.result _ (again_by c.args.a.0 c.args.line.now (reverse c.args.log.now) _ c.parted-second.ensures c.is_again.result c.is_again.ensures) c.if-is_again.false c.names_walked-walk.ensures.names c.if-walk-from.true) c.keeps_to_walk.ensures
 
-pub returns-else-walk-names : goal.returns-else-walk-names
-returns-else-walk-names c =
+pub returns-else-walk-from : goal.returns-else-walk-from
+returns-else-walk-from c =
     let w = work c.args.a.0 (reverse c.args.log.now) in
     of_part Makes c.args.plan.now c.args.from.now c.args.to.now c.args.line.now (length c.args.log.now) w c.keeps_to_make.result
-    (makes c.args.from.now c.args.line.now w c.is_again.result _ (again_by c.args.a.0 c.args.line.now (reverse c.args.log.now) _ c.parted-second.ensures c.is_again.result c.is_again.ensures) c.if-is_again.false c.names_walked-walk.ensures.names c.if-walk-names.false) c.keeps_to_make.ensures
+    (makes c.args.from.now c.args.line.now w c.is_again.result _ (again_by c.args.a.0 c.args.line.now (reverse c.args.log.now) _ c.parted-second.ensures c.is_again.result c.is_again.ensures) c.if-is_again.false c.names_walked-walk.ensures.names c.if-walk-from.false) c.keeps_to_make.ensures

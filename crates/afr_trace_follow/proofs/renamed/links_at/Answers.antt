@@ -5,7 +5,7 @@ use Rattle.afr_trace_follow.proofs.renamed.links_at.Goals as goal
 pub returns-in-At : goal.returns-in-At
 returns-in-At c =
     rw c.in-At.is
-    (as_well c.both.result _ _ (link_here c.args.file c.in-At.read c.in-At.dir c.args.to.now c.args.change.now) (both c.both.result c.same_number-led.result c.makes_last.result _ _ c.both.ensures c.same_number-led.ensures c.makes_last.ensures))
+    (as_well c.both.result _ _ (link_here c.args.file c.in-At.read c.in-At.dir c.args.to.now c.args.change.now) (both c.both.result c.same_number-led.result c.makes_last.result _ _ c.both.ensures (rw c.saturating_sub.ensures at c.same_number-led.ensures) c.makes_last.ensures))
 
 pub returns-in-NoName : goal.returns-in-NoName
 returns-in-NoName c = rw c.in-NoName.is (never _ _ refl (no_link c.args.file _ c.args.to.now c.args.change.now no_name_there))
