@@ -1,5 +1,5 @@
 -- The moment of a line: the next event, the actor, and its present task.
-use Rattle.std.proofs.Common.{◌≡◌, ◌↔◌, ◌∙◌, ℕ, suc, ◌+◌, ◌-◌, ◌<◌, ◌≤◌, ◌&&◌, ◌||◌, Bool, true, false, ◌⊎◌, inl, inr, List, [], ◌∷◌, Option, Some, None, length, slice_get, refl, sym, ap, subst, arith, true≢false}
+use Rattle.std.proofs.Common.{◌≡◌, ◌↔◌, ◌∙◌, ℕ, ◌+◌, ◌-◌, ◌<◌, ◌≤◌, ◌&&◌, ◌||◌, Bool, true, false, ◌⊎◌, inl, inr, List, [], Option, Some, None, length, slice_get, refl, sym, ap, subst, arith, true≢false}
 use Rattle.std.specs.Prelude.{nat_le}
 use Rattle.std.proofs.lemmas.Bool.{and_parts, le-leb, leb-true, or_cases}
 use Rattle.std.proofs.lemmas.List.{get_or_past}
@@ -13,7 +13,7 @@ use Rattle.afr_lines.specs.declared.line.Event.TheVariants.{Cut, Join}
 use Rattle.afr_lines.specs.declared.line.Line.{Line}
 use Rattle.afr_model.specs.Actors.{Client, Healer, IsActor, rounds_of, script_of}
 use Rattle.afr_model.specs.Commands.{path_of}
-use Rattle.afr_model.specs.Following.{IsNextEvent, IsTurnOf, KeepsToCommand, KeepsToTask, NoneDue, ToCommand, ToCrawl, ToItem, ToRound}
+use Rattle.afr_model.specs.Following.{IsNextEvent, KeepsToCommand, KeepsToTask, NoneDue, ToCommand, ToCrawl, ToItem, ToRound}
 use Rattle.afr_model.specs.Keeping.{KeepsTo}
 use Rattle.afr_model.specs.Renamed.{KeepsToRename}
 use Rattle.afr_plan.specs.declared.command.Command.{Command}

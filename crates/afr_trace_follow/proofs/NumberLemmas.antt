@@ -1,11 +1,11 @@
 -- What one line makes of the changelog numbers of a brick, and of the list of its objects that have some.
-use Rattle.std.proofs.Common.{◌≡◌, ◌∙◌, ℕ, zero, suc, ◌+◌, ◌-◌, ◌<◌, ◌≤◌, ◌==◌, ◌&&◌, Bool, true, false, List, [], ◌∷◌, Option, Some, None, length, refl, sym, ap, subst, arith, if◌then◌else◌}
+use Rattle.std.proofs.Common.{◌≡◌, ◌∙◌, ℕ, zero, suc, ◌-◌, ◌<◌, ◌≤◌, ◌==◌, ◌&&◌, Bool, true, false, List, [], ◌∷◌, Option, Some, None, length, refl, sym, ap, subst, arith, if◌then◌else◌}
 use Rattle.std.specs.Prelude.{max, option_map, slice_index}
 use Rattle.std.specs.BTreeMap.{insert_entry, is_at}
 use Rattle.std.specs.Map.{lookup}
 use Rattle.std.proofs.lemmas.Bool.Decides.{nat_tests}
 use Rattle.std.proofs.lemmas.Option.{same_Some, some_pair_parts}
-use Rattle.afr_base.specs.Marks.{closed_op, dirtied, is_no_marks, less_each, marks_of, no_marks, taken_back, with_marks, zero_marks}
+use Rattle.afr_base.specs.Marks.{closed_op, dirtied, less_each, marks_of, no_marks, taken_back, with_marks, zero_marks}
 use Rattle.afr_base.specs.declared.ids.Gfid.{Gfid}
 use Rattle.afr_base.specs.declared.ids.Kind.{Kind}
 use Rattle.afr_base.specs.declared.ids.Kind.TheVariants.{Bytes, Attrs, Names}
@@ -27,7 +27,7 @@ use Rattle.afr_lines.specs.declared.request.Request.TheVariants.{Apply, Mend, Po
 use Rattle.afr_model.specs.Tables.{Past, asked, carried, effect, held_before, holds, keeps_bytes}
 use Rattle.afr_object.specs.Indexed.{index_of}
 use Rattle.afr_object.specs.Object.{Object}
-use Rattle.afr_object.specs.Tables.{Table, applied, changed, copy_at, gfid_cmp, new_object, opening, opening_gfid, root, view_of, with_copy, with_numbers}
+use Rattle.afr_object.specs.Tables.{Table, changed, copy_at, gfid_cmp, new_object, opening, opening_gfid, root, view_of, with_numbers}
 use Rattle.afr_object.specs.TablesLemmas.{copy_at-changed, same_gfid}
 use Rattle.afr_object.specs.declared.change.Change.{Change}
 use Rattle.afr_object.specs.declared.change.Change.TheVariants.{Make}

@@ -1,31 +1,26 @@
 -- What a line of a rename keeps to, by its part.
-use Rattle.std.proofs.Common.{◌≡◌, ◌↔◌, ◌∙◌, ℕ, ◌-◌, ◌<◌, ◌≤◌, Bool, true, false, List, [], ◌∷◌, ◌++◌, Option, Some, None, length, take, reverse, slice_get, refl, sym, ap, subst, arith, if◌then◌else◌}
+use Rattle.std.proofs.Common.{◌≡◌, ◌↔◌, ◌∙◌, ℕ, ◌-◌, ◌<◌, ◌≤◌, Bool, true, false, List, [], ◌∷◌, ◌++◌, Option, Some, None, length, take, reverse, refl, sym, ap, subst, arith, if◌then◌else◌}
 use Rattle.std.specs.Prelude.{nat_lt}
-use Rattle.std.specs.Option.{option_map}
 use Rattle.std.proofs.lemmas.Bool.Decides.{nat_tests}
 use Rattle.std.proofs.lemmas.List.{take_all}
 use Rattle.afr_base.specs.declared.ids.Gfid.{Gfid}
 use Rattle.afr_base.specs.declared.ids.NameId.{NameId}
-use Rattle.afr_base.specs.declared.ids.What.TheVariants.{File}
 use Rattle.afr_lines.specs.Log.{before, change_of}
 use Rattle.afr_lines.specs.Work.{Work, work}
 use Rattle.afr_lines.specs.declared.line.Line.{Line}
 use Rattle.afr_lines.specs.declared.line.Line.TheVariants.{Ask, Begin, HealBegin, HealEnd}
 use Rattle.afr_lines.specs.declared.request.Request.TheVariants.{ReadName}
-use Rattle.afr_model.specs.Commands.{last_of, steps_of}
-use Rattle.afr_model.specs.Keeping.{KeepsTo, Names}
-use Rattle.afr_model.specs.Parts.{Part, Makes, Removes, Walks, after_names, first_part, is_again, names_asked, part_at, second_part, the_make, the_removal, the_walk, upto_names}
+use Rattle.afr_model.specs.Keeping.{Names}
+use Rattle.afr_model.specs.Parts.{Part, Makes, Removes, Walks, after_names, first_part, is_again, names_asked, part_at, second_part, the_make, upto_names}
 use Rattle.afr_model.specs.Renamed.{HasFound, KeepsToPart, KeepsToRename, MakesLink}
-use Rattle.afr_model.specs.Showing.{At, Path, begins_attempt, has, path_by}
+use Rattle.afr_model.specs.Showing.{Path, begins_attempt, has, path_by}
 use Rattle.afr_model.specs.Standing.{path_upto}
 use Rattle.afr_object.specs.declared.change.Change.{Change}
-use Rattle.afr_object.specs.declared.change.Change.TheVariants as changes
-use Rattle.afr_object.specs.declared.entry.Entry.{Entry}
 use Rattle.afr_plan.specs.declared.command.Command.TheVariants as command
 use Rattle.afr_plan.specs.declared.plan.Plan.{Plan}
 use Rattle.afr_trace_follow.proofs.LogLemmas.{before_is}
 use Rattle.afr_trace_follow.proofs.PartLemmas.{make_is, second_is, upto_is}
-use Rattle.afr_trace_follow.specs.Keeping.{IsLinkAt, IsNextOf, KeepsBy}
+use Rattle.afr_trace_follow.specs.Keeping.{IsLinkAt, KeepsBy}
 use Rattle.afr_trace_follow.specs.Parts.{lines_from, names_end, second_start}
 
 -- ---- which part

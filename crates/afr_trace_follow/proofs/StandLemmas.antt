@@ -1,10 +1,10 @@
 -- Where lines stand, one line more.
-use Rattle.std.proofs.Common.{◌≡◌, ◌∙◌, ℕ, suc, ◌+◌, ◌<◌, ◌≤◌, ◌||◌, ◌&&◌, Bool, true, false, List, [], ◌∷◌, ◌++◌, length, take, reverse, get_or, refl, sym, ap, subst, arith, append-nil, if◌then◌else◌}
+use Rattle.std.proofs.Common.{◌≡◌, ◌∙◌, ℕ, ◌+◌, ◌<◌, ◌≤◌, ◌||◌, Bool, false, List, [], ◌∷◌, ◌++◌, length, take, reverse, get_or, sym, ap, subst, arith, append-nil}
 use Rattle.std.proofs.lemmas.List.{length-take}
-use Rattle.afr_lines.specs.Work.{Work, is_of, work}
+use Rattle.afr_lines.specs.Work.{Work, work}
 use Rattle.afr_lines.specs.declared.line.Line.{Line}
-use Rattle.afr_model.specs.Showing.{Path, At, begins_attempt, has, path_after, path_by, root_entry}
-use Rattle.afr_model.specs.Standing.{kept_at, path_upto}
+use Rattle.afr_model.specs.Showing.{Path, At, begins_attempt, path_after, root_entry}
+use Rattle.afr_model.specs.Standing.{kept_at}
 use Rattle.afr_plan.specs.declared.plan.Plan.{Plan}
 use Rattle.afr_trace_follow.proofs.LogLemmas.{newest}
 use Rattle.afr_trace_follow.proofs.PartLemmas.{from_append, start_work}

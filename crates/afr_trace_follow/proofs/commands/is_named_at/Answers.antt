@@ -1,4 +1,4 @@
-use Rattle.std.proofs.Common.{◌↔◌, ◌∙◌, refl}
+use Rattle.std.proofs.Common.{refl}
 use Rattle.afr_trace_follow.proofs.KeepingLemmas.{as_well, both, named_here, never, no_name_there, no_named, untold_there}
 use Rattle.afr_trace_follow.proofs.commands.is_named_at.Goals as goal
 

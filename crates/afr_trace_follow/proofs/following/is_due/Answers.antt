@@ -1,6 +1,5 @@
 use Rattle.std.proofs.Common.{false, reverse}
 use Rattle.afr_lines.specs.declared.line.Line.{Line}
-use Rattle.afr_lines.specs.declared.line.Line.TheVariants.{Ask, Begin, End, Event, HealBegin, HealEnd}
 use Rattle.afr_model.specs.Following.{IsDue, IsNextEvent, IsTurnOf, NoneDue}
 use Rattle.afr_trace_follow.proofs.FollowLemmas.{moved}
 use Rattle.afr_trace_follow.proofs.following.is_due.Goals as goal

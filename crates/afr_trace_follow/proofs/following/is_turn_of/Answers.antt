@@ -1,5 +1,4 @@
-use Rattle.std.proofs.Common.{◌≡◌, ◌∙◌, false, true, refl, reverse, sym, true≢false}
-use Rattle.afr_model.specs.Actors.{IsActor}
+use Rattle.std.proofs.Common.{◌∙◌, refl, sym, true≢false}
 use Rattle.afr_trace_follow.proofs.FollowLemmas.{actor_is, few_actors, is_the_actor}
 use Rattle.afr_trace_follow.proofs.KeepingLemmas.{never}
 use Rattle.afr_trace_follow.proofs.following.is_turn_of.Goals as goal

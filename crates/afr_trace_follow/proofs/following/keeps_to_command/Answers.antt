@@ -1,7 +1,5 @@
-use Rattle.std.proofs.Common.{◌≡◌, ◌↔◌, ◌∙◌, List, length, reverse, subst, true}
-use Rattle.afr_base.specs.declared.ids.NameId.{NameId}
+use Rattle.std.proofs.Common.{◌∙◌, length, reverse}
 use Rattle.afr_lines.specs.Work.{work}
-use Rattle.afr_model.specs.Renamed.{KeepsToRename}
 use Rattle.afr_trace_follow.proofs.FollowLemmas.{plain_command, rename_command, same_paths}
 use Rattle.afr_trace_follow.proofs.KeepingLemmas.{as_well}
 use Rattle.afr_trace_follow.proofs.following.keeps_to_command.Goals as goal

@@ -1,4 +1,4 @@
-use Rattle.std.proofs.Common.{◌≡◌, ◌∙◌, List, ap, arith, length, refl, reverse, subst, ℕ}
+use Rattle.std.proofs.Common.{◌∙◌, List, arith, length, refl, reverse, subst, ℕ}
 use Rattle.afr_lines.specs.Work.{work}
 use Rattle.afr_lines.specs.declared.line.Line.{Line}
 use Rattle.afr_model.specs.Commands.{steps_of}

@@ -7,7 +7,7 @@ use Rattle.afr_trace_follow.proofs.lists.listed.Goals as goal
 
 pub returns : goal.returns
 returns c =
-    let here : IsNumbered c.args.plan.now (reverse c.args.older.now) c.args.b.0 c.index-bricks-b.result.now =
-    c.requires.are.each c.args.b.0 c.index-bricks-b.result.now
-    (slice_get_read c.args.bricks.now (length c.args.bricks.now) c.args.b.0 c.index-bricks-b.result.now refl (omega (arith, c.requires.brick, c.requires.are.five)) c.index-bricks-b.ensures) in
+    let here : IsNumbered c.args.plan.now (reverse c.args.older.now) c.args.b.0 c.index-bricks-b.result =
+    c.requires.are.each c.args.b.0 c.index-bricks-b.result
+    (slice_get_read c.args.bricks.now (length c.args.bricks.now) c.args.b.0 c.index-bricks-b.result refl (omega (arith, c.requires.brick, c.requires.are.five)) c.index-bricks-b.is) in
     subst (λ (w : List (Gfid × What)). IfOk c.list.result (λ (list : List (Gfid × What)). list ≡ w)) here.index c.list.ensures.ok

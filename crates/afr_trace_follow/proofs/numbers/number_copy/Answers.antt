@@ -1,4 +1,4 @@
-use Rattle.std.proofs.Common.{◌≡◌, ◌∙◌, ap, arith, reverse, subst, sym}
+use Rattle.std.proofs.Common.{◌∙◌, ap, arith, reverse, subst, sym}
 use Rattle.std.proofs.lemmas.List.{length-reverse}
 use Rattle.afr_base.specs.Marks.{marks_of, with_marks}
 use Rattle.afr_base.specs.declared.marks.AllMarks.{AllMarks}

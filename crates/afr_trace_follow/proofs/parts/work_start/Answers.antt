@@ -1,4 +1,4 @@
-use Rattle.std.proofs.Common.{◌∙◌, List, ap, arith, reverse, take, ℕ, suc, length, if◌then◌else◌}
+use Rattle.std.proofs.Common.{◌∙◌, ap, arith, reverse, take, ℕ, suc, length, if◌then◌else◌}
 use Rattle.afr_lines.specs.Work.{is_end, is_of}
 use Rattle.afr_trace_follow.proofs.LogLemmas.{length_before, next, whole}
 use Rattle.afr_trace_follow.specs.Parts.{work_start}

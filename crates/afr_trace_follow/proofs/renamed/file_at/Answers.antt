@@ -1,4 +1,4 @@
-use Rattle.std.proofs.Common.{◌∙◌, refl, sym, true≢false}
+use Rattle.std.proofs.Common.{◌∙◌, sym, true≢false}
 use Rattle.afr_trace_follow.proofs.KeepingLemmas.{file_here, no_file}
 use Rattle.afr_trace_follow.proofs.renamed.file_at.Goals as goal
 

@@ -1,4 +1,4 @@
-use Rattle.std.proofs.Common.{◌≡◌, ◌∙◌, ◌-◌, [], ℕ, List, length, reverse, subst, sym}
+use Rattle.std.proofs.Common.{◌∙◌, ◌-◌, [], ℕ, length, reverse, subst, sym}
 use Rattle.afr_lines.specs.Work.{Work, work}
 use Rattle.afr_model.specs.Parts.{the_make, the_walk}
 use Rattle.afr_trace_follow.proofs.KeepingLemmas.{as_well}

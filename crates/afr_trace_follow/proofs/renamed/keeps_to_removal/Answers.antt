@@ -1,4 +1,4 @@
-use Rattle.std.proofs.Common.{◌≡◌, ◌∙◌, ◌-◌, ◌++◌, ℕ, List, length, refl, reverse, subst}
+use Rattle.std.proofs.Common.{◌-◌, ◌++◌, ℕ, length, refl, reverse, subst}
 use Rattle.afr_lines.specs.Work.{Work, work}
 use Rattle.afr_model.specs.Parts.{second_part, the_removal, upto_names}
 use Rattle.afr_plan.specs.declared.command.Command.TheVariants as command

@@ -1,8 +1,6 @@
-use Rattle.std.proofs.Common.{◌≡◌, ◌∙◌, ◌&&◌, ◌||◌, Bool, List, ap, length, reverse, sym}
+use Rattle.std.proofs.Common.{length, reverse}
 use Rattle.afr_lines.specs.Work.{work}
-use Rattle.afr_model.specs.Parts.{Makes, Removes, Walks, is_again, unlocks_any}
-use Rattle.afr_model.specs.Showing.{has}
-use Rattle.afr_model.specs.Standing.{locks_any}
+use Rattle.afr_model.specs.Parts.{Makes, Removes, Walks}
 use Rattle.afr_trace_follow.proofs.PartLemmas.{again_by}
 use Rattle.afr_trace_follow.proofs.RenameLemmas.{makes, of_part, removes, walks}
 use Rattle.afr_trace_follow.proofs.renamed.keeps_to_rename.Goals as goal

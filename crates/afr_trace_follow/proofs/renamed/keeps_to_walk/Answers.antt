@@ -1,4 +1,4 @@
-use Rattle.std.proofs.Common.{◌≡◌, ◌∙◌, List, length, refl, reverse}
+use Rattle.std.proofs.Common.{length, refl, reverse}
 use Rattle.afr_lines.specs.Work.{Work, work}
 use Rattle.afr_model.specs.Parts.{the_walk}
 use Rattle.afr_plan.specs.declared.command.Command.TheVariants as command

@@ -1,6 +1,5 @@
-use Rattle.std.proofs.Common.{refl}
-use Rattle.afr_trace_follow.proofs.HealLemmas.{no_due, pair_due}
-use Rattle.afr_trace_follow.proofs.KeepingLemmas.{as_well, both, never}
+use Rattle.afr_trace_follow.proofs.HealLemmas.{pair_due}
+use Rattle.afr_trace_follow.proofs.KeepingLemmas.{as_well, both}
 use Rattle.afr_trace_follow.proofs.rounds.is_due.Goals as goal
 
 pub returns-in-Some : goal.returns-in-Some

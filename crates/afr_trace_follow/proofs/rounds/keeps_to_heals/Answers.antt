@@ -1,4 +1,3 @@
-use Rattle.std.proofs.Common.{Option, Some, refl}
 use Rattle.afr_trace_follow.proofs.HealLemmas.{healed_is, same_due}
 use Rattle.afr_trace_follow.proofs.KeepingLemmas.{as_well}
 use Rattle.afr_trace_follow.proofs.rounds.keeps_to_heals.Goals as goal

@@ -1,4 +1,4 @@
-use Rattle.std.proofs.Common.{arith, refl}
+use Rattle.std.proofs.Common.{refl}
 use Rattle.afr_trace_follow.proofs.StandLemmas.{none_at}
 use Rattle.afr_trace_follow.proofs.stand.at_start.Goals as goal
 

@@ -1,4 +1,4 @@
-use Rattle.std.proofs.Common.{◌∙◌, ap, arith, reverse, sym, take}
+use Rattle.std.proofs.Common.{◌∙◌, ap, arith, reverse, take}
 use Rattle.afr_lines.specs.Work.{Work}
 use Rattle.afr_model.specs.Showing.{Path}
 use Rattle.afr_model.specs.Standing.{kept_at}
