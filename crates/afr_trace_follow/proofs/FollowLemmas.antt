@@ -33,13 +33,12 @@ moved P Q line same r e h k =
 -- ---- events
 pub next_event : (p : Plan) (event : Event) (older : List Line) (x : PlannedEvent) (len : ℕ) → Some x ≡ slice_get p.events (events_made older) → len ≡ length older
     → ((x.event ≡ event) × (x.at ≤ len) → IsNextEvent p event older) × (IsNextEvent p event older → (x.event ≡ event) × (x.at ≤ len))
-next_event p event older x len e n =
-    (
-      λ k. record { planned = x; next = sym e; same = k.0; due = subst (λ (m : ℕ). x.at ≤ m) n k.1 },
-      λ k.
+next_event p event older x len e n = (
+  λ k. record { planned = x; next = sym e; same = k.0; due = subst (λ (m : ℕ). x.at ≤ m) n k.1 },
+  λ k.
       let is : k.planned ≡ x = same_Some k.planned x (sym k.next ∙ sym e) in
       (ap (λ (y : PlannedEvent). y.event) (sym is) ∙ k.same, subst (λ (m : ℕ). x.at ≤ m) (sym n) (subst (λ (y : PlannedEvent). y.at ≤ length older) is k.due)),
-    )
+)
 
 pub no_event : (p : Plan) (event : Event) (older : List Line) → None ≡ slice_get p.events (events_made older) → IsNextEvent p event older → ⊥
 no_event p event older e k =
@@ -47,11 +46,10 @@ no_event p event older e k =
     absurd (cc no)
 
 pub later_event : (p : Plan) (older : List Line) (x : PlannedEvent) (len : ℕ) → Some x ≡ slice_get p.events (events_made older) → len ≡ length older → (len < x.at → NoneDue p older) × (NoneDue p older → len < x.at)
-later_event p older x len e n =
-    (
-      λ k y h. subst (λ (m : ℕ). m < y.at) n (subst (λ (z : PlannedEvent). len < z.at) (same_Some x y (e ∙ h)) k),
-      λ k. subst (λ (m : ℕ). m < x.at) (sym n) (k x (sym e)),
-    )
+later_event p older x len e n = (
+  λ k y h. subst (λ (m : ℕ). m < y.at) n (subst (λ (z : PlannedEvent). len < z.at) (same_Some x y (e ∙ h)) k),
+  λ k. subst (λ (m : ℕ). m < x.at) (sym n) (k x (sym e)),
+)
 
 pub none_later : (p : Plan) (older : List Line) → None ≡ slice_get p.events (events_made older) → NoneDue p older
 none_later p older e x h =

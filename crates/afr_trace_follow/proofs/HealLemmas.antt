@@ -72,11 +72,10 @@ index_asked b y list w a asked told took begun h e = absurd (cc h)
 -- what is asked then is of the heal that is due
 of_heal : (list : List (Gfid × What)) (asked : Request) (w : Work) (due : Option (Gfid × Kind)) (object : Option Gfid) → due ≡ due_in list w → object ≡ object_healed asked
     → (IsHealOf due object → IsOfHeal list asked w) × (IsOfHeal list asked w → IsHealOf due object)
-of_heal list asked w due object hd ho =
-    (
-      λ k. record { object = k.gfid; kind = k.kind; due = sym hd ∙ k.is_due; about = sym ho ∙ k.about },
-      λ k. record { gfid = k.object; kind = k.kind; is_due = hd ∙ k.due; about = ho ∙ k.about },
-    )
+of_heal list asked w due object hd ho = (
+  λ k. record { object = k.gfid; kind = k.kind; due = sym hd ∙ k.is_due; about = sym ho ∙ k.about },
+  λ k. record { gfid = k.object; kind = k.kind; is_due = hd ∙ k.due; about = ho ∙ k.about },
+)
 
 pub heal_asked : (b y : BrickId) (list : List (Gfid × What)) (w : Work) (a : ActorId) (asked : Request) (told : Told) (took : Bool) (due : Option (Gfid × Kind)) (object : Option Gfid) → is_index asked ≡ false → due ≡ due_in list w
     → object ≡ object_healed asked → (IsHealOf due object → KeepsToIndexed b list (Ask a y asked told took) w) × (KeepsToIndexed b list (Ask a y asked told took) w → IsHealOf due object)
@@ -106,13 +105,12 @@ pub no_due : (g : Gfid) (kind : Kind) → ◌≡◌ {A = Option (Gfid × Kind)} 
 no_due g kind e = absurd (cc e)
 
 pub heal_here : (due : Option (Gfid × Kind)) (gfid object : Gfid) (kind : Kind) → due ≡ Some (gfid, kind) → (gfid ≡ object → IsHealOf due (Some object)) × (IsHealOf due (Some object) → gfid ≡ object)
-heal_here due gfid object kind h =
-    (
-      λ e. record { gfid = gfid; kind = kind; is_due = h; about = ap Some (sym e) },
-      λ k.
+heal_here due gfid object kind h = (
+  λ e. record { gfid = gfid; kind = kind; is_due = h; about = ap Some (sym e) },
+  λ k.
       let s = some_pair_parts gfid k.gfid kind k.kind (sym h ∙ k.is_due) in
       s.0 ∙ sym (same_Some object k.gfid k.about),
-    )
+)
 
 pub no_object : (due : Option (Gfid × Kind)) → IsHealOf due None → ⊥
 no_object due k = absurd (cc k.about)

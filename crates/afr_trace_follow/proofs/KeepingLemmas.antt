@@ -60,26 +60,24 @@ at_parts read n object o e = (cc, cc)
 
 pub next_here : (read : ℕ) (object : Entry) (names : List NameId) (g : Gfid) (name : NameId)
     → ((object.gfid ≡ g) × (slice_get names read ≡ Some name) → IsNextOf (At read object) names g name) × (IsNextOf (At read object) names g name → (object.gfid ≡ g) × (slice_get names read ≡ Some name))
-next_here read object names g name =
-    (
-      λ k. record { read = read; object = object; stands = refl; asked = k.0; next = k.1 },
-      λ k.
+next_here read object names g name = (
+  λ k. record { read = read; object = object; stands = refl; asked = k.0; next = k.1 },
+  λ k.
       let s = at_parts read k.read object k.object k.stands in
       (ap (λ (e : Entry). e.gfid) s.1 ∙ k.asked, ap (λ (n : ℕ). slice_get names n) s.0 ∙ k.next),
-    )
+)
 
 pub no_next : (path : Path) (names : List NameId) (g : Gfid) (name : NameId) → ((read : ℕ) (object : Entry) → path ≡ At read object → ⊥) → IsNextOf path names g name → ⊥
 no_next path names g name nowhere k = nowhere k.read k.object k.stands
 
 pub named_here : (read : ℕ) (object : Entry) (c : Command) (at : ℕ) (change : Change)
     → ((read ≡ steps_of c) × (change_named object.gfid at c ≡ Some change) → IsNamedAt (At read object) c at change) × (IsNamedAt (At read object) c at change → (read ≡ steps_of c) × (change_named object.gfid at c ≡ Some change))
-named_here read object c at change =
-    (
-      λ k. record { object = object; led = ap (λ (n : ℕ). At n object) k.0; named = k.1 },
-      λ k.
+named_here read object c at change = (
+  λ k. record { object = object; led = ap (λ (n : ℕ). At n object) k.0; named = k.1 },
+  λ k.
       let s = at_parts read (steps_of c) object k.object k.led in
       (s.0, ap (λ (e : Entry). change_named e.gfid at c) s.1 ∙ k.named),
-    )
+)
 
 pub no_named : (path : Path) (c : Command) (at : ℕ) (change : Change) → ((read : ℕ) (object : Entry) → path ≡ At read object → ⊥) → IsNamedAt path c at change → ⊥
 no_named path c at change nowhere k = nowhere (steps_of c) k.object k.led
@@ -87,13 +85,12 @@ no_named path c at change nowhere k = nowhere (steps_of c) k.object k.led
 pub link_here : (file : Gfid) (read : ℕ) (dir : Entry) (to : List NameId) (change : Change)
     → ((read ≡ length to - 1) × (option_map (λ name. changes.Make dir.gfid name file File) (last_of to) ≡ Some change) → IsLinkAt file (At read dir) to change)
     × (IsLinkAt file (At read dir) to change → (read ≡ length to - 1) × (option_map (λ name. changes.Make dir.gfid name file File) (last_of to) ≡ Some change))
-link_here file read dir to change =
-    (
-      λ k. record { dir = dir; led = ap (λ (n : ℕ). At n dir) k.0; named = k.1 },
-      λ k.
+link_here file read dir to change = (
+  λ k. record { dir = dir; led = ap (λ (n : ℕ). At n dir) k.0; named = k.1 },
+  λ k.
       let s = at_parts read (length to - 1) dir k.dir k.led in
       (s.0, ap (λ (e : Entry). option_map (λ name. changes.Make e.gfid name file File) (last_of to)) s.1 ∙ k.named),
-    )
+)
 
 pub no_link : (file : Gfid) (path : Path) (to : List NameId) (change : Change) → ((read : ℕ) (object : Entry) → path ≡ At read object → ⊥) → IsLinkAt file path to change → ⊥
 no_link file path to change nowhere k = nowhere (length to - 1) k.dir k.led
@@ -113,41 +110,37 @@ file_entry object g hg hw = two object.gfid g object.what File hg hw
     two a b v w e f = rw (e, f) refl
 
 pub file_here : (read names : ℕ) (object : Entry) (g : Gfid) → (read ≡ names) × (object.what ≡ File) → (Some object.gfid ≡ Some g) ↔ (At read object ≡ At names (record { gfid = g; what = File }))
-file_here read names object g h =
-    (
-      λ e. ap (λ (n : ℕ). At n object) h.0 ∙ ap (At names) (file_entry object g (same_Some object.gfid g e) h.1),
-      λ e.
+file_here read names object g h = (
+  λ e. ap (λ (n : ℕ). At n object) h.0 ∙ ap (At names) (file_entry object g (same_Some object.gfid g e) h.1),
+  λ e.
       let s = at_parts read names object (record { gfid = g; what = File }) e in
       ap (λ (x : Entry). Some x.gfid) s.1,
-    )
+)
 
 pub no_file : (read names : ℕ) (object : Entry) (g : Gfid) → ((read ≡ names) × (object.what ≡ File) → ⊥) → (None ≡ Some g) ↔ (At read object ≡ At names (record { gfid = g; what = File }))
-no_file read names object g other =
-    (
-      λ e. absurd (cc e),
-      λ e.
+no_file read names object g other = (
+  λ e. absurd (cc e),
+  λ e.
       let s = at_parts read names object (record { gfid = g; what = File }) e in
       absurd (other (s.0, ap (λ (x : Entry). x.what) s.1)),
-    )
+)
 
 -- ---- one path
 -- the name is the next one, by the same path and names
 next_name : (p : Plan) (c : Command) (g : Gfid) (name : NameId) (w : Work) (path : Path) (names : List NameId) → path ≡ path_by p w → names ≡ path_of c
     → (IsNextOf path names g name → IsNextName p c g name w) × (IsNextName p c g name w → IsNextOf path names g name)
-next_name p c g name w path names hp hn =
-    (
-      λ k. record { read = k.read; object = k.object; stands = sym hp ∙ k.stands; asked = k.asked; next = ap (λ (l : List NameId). slice_get l k.read) (sym hn) ∙ k.next },
-      λ k. record { read = k.read; object = k.object; stands = hp ∙ k.stands; asked = k.asked; next = ap (λ (l : List NameId). slice_get l k.read) hn ∙ k.next },
-    )
+next_name p c g name w path names hp hn = (
+  λ k. record { read = k.read; object = k.object; stands = sym hp ∙ k.stands; asked = k.asked; next = ap (λ (l : List NameId). slice_get l k.read) (sym hn) ∙ k.next },
+  λ k. record { read = k.read; object = k.object; stands = hp ∙ k.stands; asked = k.asked; next = ap (λ (l : List NameId). slice_get l k.read) hn ∙ k.next },
+)
 
 -- what begins is what the words name, by the same place
 pub named_is : (p : Plan) (c : Command) (w : Work) (at n : ℕ) (change : Change) (begun : Bool) (place : Path) → begun ≡ has begins_attempt w → place ≡ place_by p c w → n ≡ at
     → ((begun ≡ false) × IsNamedAt place c n change → (has begins_attempt w ≡ false) × Names p c w at change) × ((has begins_attempt w ≡ false) × Names p c w at change → (begun ≡ false) × IsNamedAt place c n change)
-named_is p c w at n change begun place hb hl hn =
-    (
-      λ k. (sym hb ∙ k.0, record { object = k.1.object; led = sym hl ∙ k.1.led; named = ap (λ (m : ℕ). change_named k.1.object.gfid m c) (sym hn) ∙ k.1.named }),
-      λ k. (hb ∙ k.0, record { object = k.1.object; led = hl ∙ k.1.led; named = ap (λ (m : ℕ). change_named k.1.object.gfid m c) hn ∙ k.1.named }),
-    )
+named_is p c w at n change begun place hb hl hn = (
+  λ k. (sym hb ∙ k.0, record { object = k.1.object; led = sym hl ∙ k.1.led; named = ap (λ (m : ℕ). change_named k.1.object.gfid m c) (sym hn) ∙ k.1.named }),
+  λ k. (hb ∙ k.0, record { object = k.1.object; led = hl ∙ k.1.led; named = ap (λ (m : ℕ). change_named k.1.object.gfid m c) hn ∙ k.1.named }),
+)
 
 -- a line keeps to the command, by where its work stands
 pub keeps_is : (p : Plan) (c : Command) (line : Line) (at : ℕ) (w : Work) (path : Path) (names : List NameId) (begins : Bool) → path ≡ path_by p w → names ≡ path_of c

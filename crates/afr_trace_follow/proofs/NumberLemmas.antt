@@ -160,7 +160,7 @@ all_same : (x y : AllMarks) → ((kind : Kind) → marks_of kind x ≡ marks_of 
 all_same x y h = three_same x.bytes y.bytes x.attrs y.attrs x.names y.names (h Bytes) (h Attrs) (h Names)
 
 module _ (p : Plan) (b : ℕ) (line : Line) (older : List Line) (n new : Numbered) (r : Request) (h : Gfid) (k : Kind) (what : What) (all : AllMarks) (e : request_at b line ≡ Some r) (f : numbers_in r ≡ Some (h, k)) (there : IsFound p older b h what)
-  (is : all ≡ with_marks k (renumbered r (marks_of k (marks_at h n.marks))) (marks_at h n.marks)) (v : IsNumbered p older b n) where
+    (is : all ≡ with_marks k (renumbered r (marks_of k (marks_at h n.marks))) (marks_at h n.marks)) (v : IsNumbered p older b n) where
   kept : marks_at h n.marks ≡ there.object.marks
   kept = all_same (marks_at h n.marks) there.object.marks (λ kind. v.marks h kind ∙ ap (numbers_if kind) there.found)
 
@@ -186,8 +186,8 @@ module _ (p : Plan) (b : ℕ) (line : Line) (older : List Line) (n new : Numbere
   index_kept put =
       put ∙ relisted_is ∙ index_of-relisted h (with_numbers k (renumbered r) there.object) there.object (holds p older b) (sorted p older b) there.found
       ∙ sym
-        (ap index_of (tables_numbered p b line older r h k e f)
-        ∙ ap (λ (o : Option Object). index_of (changed (with_numbers k (renumbered r)) h o (holds p older b))) there.found)
+      (ap index_of (tables_numbered p b line older r h k e f)
+      ∙ ap (λ (o : Option Object). index_of (changed (with_numbers k (renumbered r)) h o (holds p older b))) there.found)
 
   -- what is kept after a line that changes the numbers of a copy
   pub numbered_more : new.marks ≡ insert_entry gfid_cmp n.marks h all → new.index ≡ listed_by h what all n.index → IsNumbered p (line ∷ older) b new

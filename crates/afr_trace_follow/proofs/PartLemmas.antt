@@ -147,9 +147,9 @@ upto_is k a (line ∷ older) = by (is_of a line) (is_end line) refl refl (leb_te
         → ((nat_le k (names_asked (work a older)) ≡ true) × (k ≤ names_asked (work a older))) ⊎ ((nat_le k (names_asked (work a older)) ≡ false) × (names_asked (work a older) < k))
         → work a (before (names_end k a older) older) ≡ upto_names k (work a older)
         → work a
-          (before
-          (if of then (if end then suc (length older) else (if nat_le k (names_asked (work a older)) then names_end k a older else suc (length older)))
-          else (if nat_le k (names_asked (work a older)) then names_end k a older else suc (length older))) (line ∷ older))
+        (before
+        (if of then (if end then suc (length older) else (if nat_le k (names_asked (work a older)) then names_end k a older else suc (length older)))
+        else (if nat_le k (names_asked (work a older)) then names_end k a older else suc (length older))) (line ∷ older))
         ≡ upto_names k (if of then (if end then [] else (line, older) ∷ work a older) else work a older)
     by true true h e s more = all ∙ work_ended a line older h e
     by true false h e (inl s) more = rw s.0 (kept more)
@@ -169,8 +169,8 @@ after_is k a (line ∷ older) = by (is_of a line) (is_end line) refl refl (leb_t
         → ((nat_le k (names_asked (work a older)) ≡ true) × (k ≤ names_asked (work a older))) ⊎ ((nat_le k (names_asked (work a older)) ≡ false) × (names_asked (work a older) < k))
         → lines_from a (names_end k a older) older ≡ after_names k (work a older)
         → lines_from a
-          (if of then (if end then suc (length older) else (if nat_le k (names_asked (work a older)) then names_end k a older else suc (length older)))
-          else (if nat_le k (names_asked (work a older)) then names_end k a older else suc (length older))) (line ∷ older)
+        (if of then (if end then suc (length older) else (if nat_le k (names_asked (work a older)) then names_end k a older else suc (length older)))
+        else (if nat_le k (names_asked (work a older)) then names_end k a older else suc (length older))) (line ∷ older)
         ≡ after_names k (if of then (if end then [] else (line, older) ∷ work a older) else work a older)
     by true true h e s more = none
     by true false h e (inl s) more =

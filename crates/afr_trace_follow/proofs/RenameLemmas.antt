@@ -83,20 +83,18 @@ pub link_is : (p : Plan) (from to : List NameId) (w : Work) (change : Change) (b
     → ((g : Gfid) → (file ≡ Some g) ↔ HasFound p from g w)
     → ((begun ≡ false) × ((g : Gfid) × (file ≡ Some g) × IsLinkAt g place to change) → (has begins_attempt (the_make from w) ≡ false) × MakesLink p from to w change)
     × ((has begins_attempt (the_make from w) ≡ false) × MakesLink p from to w change → (begun ≡ false) × ((g : Gfid) × (file ≡ Some g) × IsLinkAt g place to change))
-link_is p from to w change begun file place hb hl hf =
-    (
-      λ k. (sym hb ∙ k.0, record { file = k.1.0; found = (hf k.1.0).0 k.1.1; dir = k.1.2.dir; led = sym hl ∙ k.1.2.led; named = k.1.2.named }),
-      λ k. (hb ∙ k.0, (k.1.file, (hf k.1.file).1 k.1.found, record { dir = k.1.dir; led = hl ∙ k.1.led; named = k.1.named })),
-    )
+link_is p from to w change begun file place hb hl hf = (
+  λ k. (sym hb ∙ k.0, record { file = k.1.0; found = (hf k.1.0).0 k.1.1; dir = k.1.2.dir; led = sym hl ∙ k.1.2.led; named = k.1.2.named }),
+  λ k. (hb ∙ k.0, (k.1.file, (hf k.1.file).1 k.1.found, record { dir = k.1.dir; led = hl ∙ k.1.led; named = k.1.named })),
+)
 
 pub make_keeps : (p : Plan) (from to : List NameId) (line : Line) (at : ℕ) (w : Work) (path : Path) (begins : Bool) → path ≡ path_by p (the_make from w)
     → ((change : Change) → change_of line ≡ Some change → ((begins ≡ true) ↔ ((has begins_attempt (the_make from w) ≡ false) × MakesLink p from to w change)))
     → (KeepsBy path to begins line → KeepsToPart Makes p from to line at w) × (KeepsToPart Makes p from to line at w → KeepsBy path to begins line)
-make_keeps p from to (Ask a b (ReadName g name) told took) at w path begins hp hb =
-    (
-      λ k. record { read = k.read; object = k.object; stands = sym hp ∙ k.stands; asked = k.asked; next = k.next },
-      λ k. record { read = k.read; object = k.object; stands = hp ∙ k.stands; asked = k.asked; next = k.next },
-    )
+make_keeps p from to (Ask a b (ReadName g name) told took) at w path begins hp hb = (
+  λ k. record { read = k.read; object = k.object; stands = sym hp ∙ k.stands; asked = k.asked; next = k.next },
+  λ k. record { read = k.read; object = k.object; stands = hp ∙ k.stands; asked = k.asked; next = k.next },
+)
 make_keeps p from to (Begin a change) at w path begins hp hb = ((hb change refl).0, (hb change refl).1)
 make_keeps p from to (HealBegin a g kind) at w path begins hp hb = (λ k. k, λ k. k)
 make_keeps p from to (HealEnd a g kind reply) at w path begins hp hb = (λ k. k, λ k. k)

@@ -6,8 +6,8 @@ ghost use Rattle.afr_object.specs.declared.change.Change.{Change};
 ghost use Rattle.afr_trace_follow.specs.Keeping.{IsNamedAt, IsNextOf};
 ghost use Rattle.afr_trace_follow.specs.Seen.{path_seen};
 
-use crate::path::Path;
 use crate::facts::{both, same_gfid, same_number};
+use crate::path::Path;
 use afr_base::{Gfid, KeyId, NameId, ValueId, What};
 use afr_object::{Change, Chunk};
 use afr_plan::{Command, NamePath};
@@ -225,10 +225,18 @@ fn is_named(g: Gfid, position: usize, command: &Command, change: &Change) -> boo
         Command::Cut { len, .. } => is_cut(change, g, *len),
         Command::SetAttr { key, value, .. } => is_set_attr(change, g, *key, *value),
         Command::Create { path } => makes_last(
-            change, g, path.as_slice(), made_at(position), What::File,
+            change,
+            g,
+            path.as_slice(),
+            made_at(position),
+            What::File,
         ),
         Command::Mkdir { path } => makes_last(
-            change, g, path.as_slice(), made_at(position), What::Dir,
+            change,
+            g,
+            path.as_slice(),
+            made_at(position),
+            What::Dir,
         ),
         Command::Unlink { path } => removes_last(change, g, path.as_slice(), What::File),
         Command::Rmdir { path } => removes_last(change, g, path.as_slice(), What::Dir),
@@ -241,12 +249,7 @@ fn is_named(g: Gfid, position: usize, command: &Command, change: &Change) -> boo
 }
 
 /// Whether it is, where the path to the object stands so.
-pub(crate) fn is_named_at(
-    place: Path,
-    command: &Command,
-    position: usize,
-    change: &Change,
-) -> bool
+pub(crate) fn is_named_at(place: Path, command: &Command, position: usize, change: &Change) -> bool
     requires { position < 2 ^ 62 }
     ensures { (result ≡ true) ↔ IsNamedAt (path_seen place) command.now position change.now }
 {

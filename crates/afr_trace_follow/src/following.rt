@@ -10,11 +10,11 @@ ghost use Rattle.afr_trace_follow.specs.Lists.{AreLists};
 ghost use Rattle.afr_trace_tally.specs.Tally.{IsTally};
 
 use crate::commands::path_of;
+use crate::facts::{both, same_brick};
 use crate::keeping::keeps_to;
 use crate::lists::Lists;
 use crate::renamed::keeps_to_rename;
 use crate::rounds::keeps_to_round;
-use crate::facts::{both, same_brick};
 use afr_base::{ActorId, BrickId};
 use afr_lines::{Event, Line};
 use afr_plan::{Command, NamePath, Plan, PlannedEvent};
@@ -308,14 +308,7 @@ fn is_turn_of(
 }
 
 /// Whether a line of an actor is its turn, and no event is due.
-fn is_turn(
-    tally: &Tally,
-    plan: &Plan,
-    log: &[Line],
-    lists: &Lists,
-    a: ActorId,
-    line: &Line,
-) -> bool
+fn is_turn(tally: &Tally, plan: &Plan, log: &[Line], lists: &Lists, a: ActorId, line: &Line) -> bool
     requires tally { IsTally plan.now (reverse log.now) tally.now }
     requires lists { AreLists plan.now (reverse log.now) lists.now }
     requires actors { HasFewActors plan.now }
@@ -347,13 +340,7 @@ fn is_due(tally: &Tally, plan: &Plan, log: &[Line], lists: &Lists, line: &Line) 
 
 /// Whether a line comes while the log has room, and is what the plan has for its moment: the next event, or a line of an actor that
 /// lives, which keeps to its present command or round, while no event is due. It takes as many steps as the log has lines.
-pub fn is_following(
-    tally: &Tally,
-    plan: &Plan,
-    log: &[Line],
-    lists: &Lists,
-    line: &Line,
-) -> bool
+pub fn is_following(tally: &Tally, plan: &Plan, log: &[Line], lists: &Lists, line: &Line) -> bool
     requires tally { IsTally plan.now (reverse log.now) tally.now }
     requires lists { AreLists plan.now (reverse log.now) lists.now }
     requires actors { HasFewActors plan.now }

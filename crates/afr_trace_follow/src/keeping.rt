@@ -16,9 +16,9 @@ ghost use Rattle.afr_trace_follow.specs.Stands.{IsAt};
 ghost use Rattle.afr_trace_tally.specs.Tally.{IsTally};
 
 use crate::commands::{is_named_at, is_next_of, is_on_name, path_of, steps_of};
+use crate::facts::{both, is_not};
 use crate::path::Path;
 use crate::stand::{Stand, stand_of};
-use crate::facts::{both, is_not};
 use afr_base::{ActorId, NameId};
 use afr_lines::{Line, Request};
 use afr_plan::{Command, Plan};

@@ -64,7 +64,12 @@ fn index_given(line: &Line) -> Option<BrickId>
 }
 
 /// The list of the brick's index.
-fn listed(bricks: &[Numbered], plan: &Plan, older: &[Line], b: BrickId) -> Result<IndexList, NoMemory>
+fn listed(
+    bricks: &[Numbered],
+    plan: &Plan,
+    older: &[Line],
+    b: BrickId,
+) -> Result<IndexList, NoMemory>
     requires are { AreNumbered plan.now (reverse older.now) bricks.now }
     requires brick { b.0 < 5 }
     ensures { IfOk result (λ list. list ≡ index_of (holds plan.now (reverse older.now) b.0)) }
@@ -183,7 +188,14 @@ impl Lists {
         requires few { length older.now < 2147483648 }
         ensures ok { OnOk result (AreLists plan.now (line.now ∷ reverse older.now) self.new) }
     {
-        give_all(&mut self.given, alloc, self.bricks.as_slice(), plan, line, older)?;
+        give_all(
+            &mut self.given,
+            alloc,
+            self.bricks.as_slice(),
+            plan,
+            line,
+            older,
+        )?;
         number_all(&mut self.bricks, tally, plan, line, older)?;
         Ok(())
     }

@@ -129,18 +129,20 @@ fn request_at(b: BrickId, line: &Line) -> Option<&Request>
             request,
             took,
             ..
-        } => { if *took && *brick == b { Some(request) } else { None } }
+        } => {
+            if *took && *brick == b {
+                Some(request)
+            } else {
+                None
+            }
+        }
         _ => None,
     }
 }
 
 // ---- one more line
 
-fn put_marks(
-    kept: &mut SortedMap<Gfid, AllMarks>,
-    g: Gfid,
-    all: AllMarks,
-) -> Result<(), NoMemory>
+fn put_marks(kept: &mut SortedMap<Gfid, AllMarks>, g: Gfid, all: AllMarks) -> Result<(), NoMemory>
     ensures ok { OnOk result (kept.new ≡ insert_entry gfid_cmp kept.old g all) }
 {
     kept.insert(g, all)

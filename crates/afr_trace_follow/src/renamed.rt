@@ -15,11 +15,11 @@ ghost use Rattle.afr_trace_follow.specs.Seen.{path_seen};
 ghost use Rattle.afr_trace_tally.specs.Tally.{IsTally};
 
 use crate::commands::{makes_last, removes_last};
+use crate::facts::{both, is_not, same_number};
 use crate::keeping::keeps_by;
 use crate::parts::{Second, Walked, is_again, names_walked, parted};
 use crate::path::Path;
 use crate::stand::{at_start, stand_of, stand_on};
-use crate::facts::{both, is_not, same_number};
 use afr_base::{ActorId, Gfid, NameId, What};
 use afr_lines::Line;
 use afr_object::Change;
@@ -95,13 +95,7 @@ fn links_at(file: Gfid, place: Path, to: &[NameId], change: &Change) -> bool
 }
 
 /// Whether a change is the first one of the making, and gives the file its new name.
-fn begins_file(
-    begun: bool,
-    file: Option<Gfid>,
-    place: Path,
-    to: &[NameId],
-    change: &Change,
-) -> bool
+fn begins_file(begun: bool, file: Option<Gfid>, place: Path, to: &[NameId], change: &Change) -> bool
     ensures { (result ≡ true) ↔ ((begun ≡ false) × ((g : Gfid) × (file ≡ Some g) × IsLinkAt g (path_seen place) to.now change.now)) }
 {
     match file {

@@ -118,7 +118,15 @@ pub(crate) fn stand_on(
     let mut stand = start;
     for position in 0..upto {
         stand = stand_more(
-            tally, plan, log, a, from, names, &log[position], position, stand,
+            tally,
+            plan,
+            log,
+            a,
+            from,
+            names,
+            &log[position],
+            position,
+            stand,
         );
     }
     stand

@@ -16,8 +16,7 @@ pub keeps_to_task-requires-clause-known : goal.keeps_to_task-requires-clause-kno
 keeps_to_task-requires-clause-known c = few_actors c.args.plan.now c.args.a.0 c.requires.actors (actor_is c.args.plan.now c.args.a.0 (sym c.is_actor.ensures ∙ c.if-not-is_actor.false))
 
 pub returns : goal.returns
-returns c =
-    (
-      λ yes. record { actor = actor_is c.args.plan.now c.args.a.0 (sym c.is_actor.ensures ∙ c.if-not-is_actor.false); alive = c.is_alive.ensures.0 c.if-not-is_alive.false; keeps = c.keeps_to_task.ensures.0 yes },
-      λ t. c.keeps_to_task.ensures.1 t.keeps,
-    )
+returns c = (
+  λ yes. record { actor = actor_is c.args.plan.now c.args.a.0 (sym c.is_actor.ensures ∙ c.if-not-is_actor.false); alive = c.is_alive.ensures.0 c.if-not-is_alive.false; keeps = c.keeps_to_task.ensures.0 yes },
+  λ t. c.keeps_to_task.ensures.1 t.keeps,
+)
