@@ -1,4 +1,5 @@
 pub mod BlamingLemmas
+pub mod FeedLemmas
 pub mod FillingLemmas
 pub mod FoundLemmas
 pub mod OutcomeLemmas

@@ -2,3 +2,4 @@ pub mod Works
 pub mod Honest
 pub mod Blaming
 pub mod Right
+pub mod Taken

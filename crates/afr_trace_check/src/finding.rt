@@ -1,4 +1,7 @@
 //! What the check of a trace says.
+ghost use Rattle.std.specs.Prelude.{◌≡◌};
+
+use afr_base::NoMemory;
 
 /// What a line of a trace can break.
 #[derive(Clone, Copy, Debug, PartialEq, Eq)]
@@ -20,4 +23,22 @@ pub enum Rule {
 pub enum Finding {
     Yes(u32),
     No { line: u32, rule: Rule },
+}
+
+/// Why a trace isn't checked.
+#[derive(Clone, Copy, Debug, PartialEq, Eq)]
+pub enum CheckStop {
+    /// It has more than 2,000 line feeds, or its plan writes or cuts past 1,024 bytes.
+    Limit,
+    NoMemory,
+}
+
+impl From<NoMemory> for CheckStop {
+    ghost use Rattle.afr_trace_check.specs.declared.finding.CheckStop.TheVariants as stops;
+
+    ghost from_gives = { λ _ stop. stop ≡ stops.NoMemory };
+
+    fn from(_: NoMemory) -> CheckStop {
+        CheckStop::NoMemory
+    }
 }

@@ -2,6 +2,7 @@
 #![tactic(auto)]
 
 mod blamed;
+mod checking;
 mod filling;
 mod finding;
 mod honest;
@@ -9,7 +10,8 @@ mod showing;
 mod told;
 
 pub use blamed::is_blamed;
+pub use checking::check;
 pub use filling::filled;
-pub use finding::{Finding, Rule};
+pub use finding::{CheckStop, Finding, Rule};
 pub use honest::is_honest;
 pub use showing::shown_by;
