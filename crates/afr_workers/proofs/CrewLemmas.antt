@@ -1,12 +1,12 @@
 -- What a line, an event and an assignment leave of how far a crawl has come.
-use Rattle.std.proofs.Common.{◌≡◌, ◌≢◌, ◌∙◌, ℕ, zero, suc, ◌+◌, ◌-◌, ◌<◌, ◌≤◌, ◌==◌, ◌||◌, ◌&&◌, ◌⊎◌, not, nat_le, nat_lt, Bool, true, false, List, [], ◌∷◌, Option, None, Some, if◌then◌else◌, inl, inr, refl, sym, ap, arith, subst, length, slice_get, slice_set}
+use Rattle.std.proofs.Common.{◌≡◌, ◌≢◌, ◌∙◌, ℕ, zero, suc, ◌+◌, ◌-◌, ◌≤◌, ◌==◌, ◌||◌, ◌&&◌, ◌⊎◌, not, nat_le, nat_lt, Bool, true, false, List, [], ◌∷◌, Option, None, Some, if◌then◌else◌, inl, inr, refl, sym, ap, arith, subst, slice_get, slice_set}
 use Rattle.std.specs.Prelude.{is_some, option_and_then}
 use Rattle.std.proofs.lemmas.Bool.Decides.{eqb_tells, nat_tests}
 use Rattle.afr_base.specs.declared.ids.ActorId.{ActorId}
 use Rattle.afr_lines.specs.Work.{ended, is_end, is_killed, is_of, kills, work}
 use Rattle.afr_lines.specs.declared.line.Line.{Line}
 use Rattle.afr_lines.specs.declared.line.Line.TheVariants.{Ask, Begin, End, Event, HealBegin, HealEnd}
-use Rattle.afr_model.specs.Actors.{rounds_of, works_of}
+use Rattle.afr_model.specs.Actors.{works_of}
 use Rattle.afr_model.specs.Crawl.{CanCrawl, IsTried, IsWorker, item_by, items_of, lists_by, tasks_by, with_item}
 use Rattle.afr_plan.specs.declared.plan.Plan.{Plan}
 use Rattle.afr_tasks.proofs.Balances.{weigh_append}

@@ -1,12 +1,12 @@
 -- The lists that a crawler was given, and how they grow with the lines of a log.
-use Rattle.std.proofs.Common.{◌≡◌, ◌∙◌, ℕ, ◌+◌, ◌<◌, ◌≤◌, ◌==◌, ◌⊎◌, Bool, true, false, List, [], ◌∷◌, Option, None, Some, if◌then◌else◌, inl, inr, refl, sym, ap, arith, subst, length, slice_get}
+use Rattle.std.proofs.Common.{◌≡◌, ℕ, ◌+◌, ◌<◌, ◌≤◌, ◌==◌, Bool, true, false, List, [], ◌∷◌, Option, Some, if◌then◌else◌, inl, inr, refl, sym, ap, arith, subst, length, slice_get}
 use Rattle.std.specs.Prelude.{Contains, option_and_then}
 use Rattle.std.proofs.lemmas.Bool.Decides.{nat_tests}
 use Rattle.std.proofs.lemmas.Option.{get_or_from_slice_get, slice_get_within}
 use Rattle.afr_base.specs.declared.ids.BrickId.{BrickId}
 use Rattle.afr_law.proofs.Model.Tasks.{no_script}
 use Rattle.afr_lines.specs.Log.{from_oldest}
-use Rattle.afr_lines.specs.Work.{Work, ended, is_end, is_of, work}
+use Rattle.afr_lines.specs.Work.{ended, is_end, is_of, work}
 use Rattle.afr_lines.specs.declared.answer.Told.TheVariants.{Given}
 use Rattle.afr_lines.specs.declared.line.Line.{Line}
 use Rattle.afr_lines.specs.declared.line.Line.TheVariants.{Ask, Begin, End, Event, HealBegin, HealEnd}

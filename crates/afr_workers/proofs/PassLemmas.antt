@@ -1,5 +1,5 @@
 -- Turns of a crawl, one after the other, and the pass that added no line.
-use Rattle.std.proofs.Common.{◌≡◌, ◌≢◌, ◌∙◌, ℕ, zero, suc, ◌+◌, ◌-◌, ◌<◌, ◌≤◌, ◌==◌, ◌||◌, ◌&&◌, ◌⊎◌, nat_le, nat_lt, Bool, true, false, List, [], ◌∷◌, Option, None, Some, Result, Ok, Err, inl, inr, refl, sym, ap, arith, subst, length}
+use Rattle.std.proofs.Common.{◌≡◌, ◌∙◌, ℕ, zero, suc, ◌+◌, ◌-◌, ◌<◌, ◌≤◌, ◌⊎◌, nat_lt, Bool, true, false, List, [], ◌∷◌, None, Some, Result, Ok, Err, inl, inr, refl, sym, ap, arith, subst, length}
 use Rattle.std.specs.Prelude.{OnOk}
 use Rattle.std.proofs.lemmas.Bool.Decides.{nat_tests}
 use Rattle.afr_base.specs.declared.ids.ActorId.{ActorId}
@@ -8,9 +8,8 @@ use Rattle.afr_lines.specs.declared.line.Event.{Event as OfEvent}
 use Rattle.afr_lines.specs.declared.line.Line.{Line}
 use Rattle.afr_lines.specs.declared.line.Line.TheVariants.{Event}
 use Rattle.afr_model.specs.Actors.{Client, Healer, IsActor}
-use Rattle.afr_model.specs.Complete.{IsComplete, IsFinished}
+use Rattle.afr_model.specs.Complete.{IsComplete}
 use Rattle.afr_model.specs.Crawl.{CanCrawl, IsWorker, lists_by}
-use Rattle.afr_model.specs.Following.{NoneDue}
 use Rattle.afr_plan.specs.declared.plan.Plan.{Plan}
 use Rattle.afr_volume.proofs.TaskDone.{done_by_plan}
 use Rattle.afr_volume.specs.Going.{AfterEvent, AfterTurn, AtFirst, ClientsRun, goes_on_after}
@@ -19,7 +18,7 @@ use Rattle.afr_volume.specs.Tasks.{is_done_in}
 use Rattle.afr_volume.specs.Turning.{Comes, Turns, due_of}
 use Rattle.afr_volume.specs.declared.turned.Turned.{Turned}
 use Rattle.afr_volume.specs.declared.turned.Turned.TheVariants.{Ended, Full, Moved, Waits}
-use Rattle.afr_workers.specs.Crew.{IsAtRest, IsCrawled, IsCrew, IsStill, IsTriedIn, Leads, TakesNone, first_crew, noted}
+use Rattle.afr_workers.specs.Crew.{IsAtRest, IsCrawled, IsCrew, IsStill, IsTriedIn, Leads, TakesNone, noted}
 use Rattle.afr_workers.specs.Cursor.{IsLast}
 use Rattle.afr_workers.specs.declared.crew.Crew.{Crew}
 use Rattle.afr_workers.proofs.CrewLemmas.{begins, event_kept, idle_of, line_kept, still_lives, tried_all}

@@ -1,6 +1,6 @@
 -- The orders of the clients leave nothing given, and the passes give all.
-use Rattle.std.proofs.Common.{◌≡◌, ◌∙◌, ap, refl, subst, sym}
-use Rattle.afr_workers.specs.Crew.{IsCrawled, IsCrew, IsTriedIn}
+use Rattle.std.proofs.Common.{◌≡◌, ◌∙◌, ap, subst, sym}
+use Rattle.afr_workers.specs.Crew.{IsCrew}
 use Rattle.afr_workers.specs.declared.crew.Crew.{Crew}
 use Rattle.afr_workers.proofs.PassLemmas.{begins_at, crawled_of, crew_at, ends_if, orders_kept, tried_of}
 use Rattle.afr_workers.proofs.crawling.crawl_all.Goals as goal

@@ -1,4 +1,3 @@
-use Rattle.std.proofs.Common.{inl}
 use Rattle.afr_workers.proofs.PassLemmas.{leads_nowhere}
 use Rattle.afr_workers.proofs.crawling.go_on.Goals as goal
 

@@ -1,5 +1,5 @@
 -- Each pass but the last adds a line.
-use Rattle.std.proofs.Common.{◌≡◌, ◌≤◌, Ok, ap, arith, inl, inr, length, true}
+use Rattle.std.proofs.Common.{◌≡◌, ◌≤◌, Ok, ap, arith, inr, length, true}
 use Rattle.std.proofs.lemmas.Grind.{common_steps}
 use Rattle.afr_workers.proofs.PassLemmas.{leads_nowhere, leads_then}
 use Rattle.afr_workers.proofs.passes.all_passes.Goals as goal

@@ -1,5 +1,5 @@
 -- Each client has had its turn.
-use Rattle.std.proofs.Common.{◌≡◌, ◌+◌, ◌<◌, ◌≤◌, Ok, ap, arith, length, refl, true}
+use Rattle.std.proofs.Common.{◌≡◌, ◌+◌, Ok, ap, arith, length, refl, true}
 use Rattle.std.proofs.lemmas.Grind.{common_steps}
 use Rattle.afr_model.specs.Actors.{Client}
 use Rattle.afr_workers.proofs.PassLemmas.{done_stays, leads_nowhere, leads_then, row_more, still_here, still_then}

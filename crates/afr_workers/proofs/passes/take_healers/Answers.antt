@@ -1,5 +1,5 @@
 -- The crawler and both workers have had their turns.
-use Rattle.std.proofs.Common.{◌≡◌, ◌≤◌, Ok, ap, arith, length, true}
+use Rattle.std.proofs.Common.{◌≡◌, Ok, ap, arith, true}
 use Rattle.std.proofs.lemmas.Grind.{common_steps}
 use Rattle.afr_model.specs.Actors.{Healer}
 use Rattle.afr_workers.proofs.PassLemmas.{done_stays, leads_then, still_then, takes_none_stays, three_done}

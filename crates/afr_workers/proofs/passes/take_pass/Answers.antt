@@ -1,5 +1,5 @@
 -- A pass that added no line has found every actor done.
-use Rattle.std.proofs.Common.{◌≡◌, ◌+◌, ◌≤◌, Ok, ap, arith, length, true}
+use Rattle.std.proofs.Common.{◌≡◌, ◌+◌, Ok, ap, arith, true}
 use Rattle.std.proofs.lemmas.Grind.{common_steps}
 use Rattle.afr_workers.proofs.PassLemmas.{all_done, done_stays, leads_then, still_then, takes_none_stays}
 use Rattle.afr_workers.proofs.passes.take_pass.Goals as goal

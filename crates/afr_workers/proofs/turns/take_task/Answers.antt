@@ -1,8 +1,7 @@
 -- Events, then an item where the worker is at no task, and then its turn.
-use Rattle.std.proofs.Common.{◌≡◌, ◌∙◌, ◌≤◌, ap, arith, false, length, refl, subst, sym, true}
+use Rattle.std.proofs.Common.{◌≡◌, ◌∙◌, ap, arith, false, length, subst, sym, true}
 use Rattle.afr_volume.specs.State.{State}
-use Rattle.afr_volume.specs.Tasks.{is_done_in}
-use Rattle.afr_workers.specs.Crew.{IsCrew, IsStill, Leads}
+use Rattle.afr_workers.specs.Crew.{IsCrew, Leads}
 use Rattle.afr_workers.proofs.PassLemmas.{leads_then, same_leads, still_then, task_still, turn_full, turn_kept, turn_leads, worker_actor}
 use Rattle.afr_workers.proofs.turns.take_task.Goals as goal
 

@@ -1,8 +1,8 @@
 -- Events, and then a turn.
-use Rattle.std.proofs.Common.{◌≡◌, ◌∙◌, ◌≤◌, arith, false, length, refl, subst, sym, true}
+use Rattle.std.proofs.Common.{◌≡◌, ◌∙◌, arith, false, refl, subst, sym, true}
 use Rattle.afr_volume.specs.State.{State}
 use Rattle.afr_volume.specs.Tasks.{is_done_in}
-use Rattle.afr_workers.specs.Crew.{IsCrew, IsStill, Leads}
+use Rattle.afr_workers.specs.Crew.{IsCrew, Leads}
 use Rattle.afr_workers.proofs.PassLemmas.{leads_then, still_then, turn_full, turn_kept, turn_leads, turn_still}
 use Rattle.afr_workers.proofs.turns.take_turn.Goals as goal
 
