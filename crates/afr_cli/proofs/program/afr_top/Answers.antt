@@ -148,4 +148,4 @@ returns-clause-plain g c = elim c.match-form_of.branch [
 ]
 
 pub returns-clause-right : goal.returns-clause-right
-returns-clause-right g c = plain_right _ (returns-clause-plain g c) c.every_line.ensures.right
+returns-clause-right g c = plain_right c.match-form_of.volume (returns-clause-plain g c) c.every_line.ensures.right
