@@ -1,6 +1,6 @@
 -- What is found of a trace, by the log that its lines have built so far.
-use Rattle.std.proofs.Common.{◌≡◌, ◌∙◌, ℕ, zero, suc, ◌+◌, ◌<◌, ◌≤◌, Bool, true, false, List, [], ◌∷◌, ◌++◌, Some, None, length, drop, get_or, map, reverse, refl, sym, ap, subst, arith, add-one, append_assoc, if◌then◌else◌}
-use Rattle.std.proofs.lemmas.List.{reverse-reverse}
+use Rattle.std.proofs.Common.{◌≡◌, ◌∙◌, ◌↔◌, ℕ, zero, suc, ◌+◌, ◌<◌, ◌≤◌, Bool, true, false, List, [], ◌∷◌, ◌++◌, Option, Some, None, IfNone, IfSome, length, drop, get_or, map, reverse, refl, sym, ap, subst, arith, add-one, append_assoc, if◌then◌else◌}
+use Rattle.std.proofs.lemmas.List.{reverse-append, reverse-reverse}
 use Rattle.std.proofs.lemmas.Option.{same_Some}
 use Rattle.afr_lines.specs.Log.{EveryPrefix}
 use Rattle.afr_lines.specs.declared.line.Line.{Line}
@@ -17,7 +17,9 @@ use Rattle.afr_trace_check.specs.Right.{BreaksFirst, Breaks, Ends, EndsBy, IsFou
 use Rattle.afr_trace_check.specs.declared.finding.Finding.TheVariants as finding
 use Rattle.afr_trace_check.specs.declared.finding.Rule.{Rule}
 use Rattle.afr_trace_check.specs.declared.finding.Rule.TheVariants as rule
-use Rattle.afr_trace_check.specs.Taken.{IsOutcomeOf}
+use Rattle.afr_base.specs.declared.ids.Gfid.{Gfid}
+use Rattle.afr_trace_safe.specs.Touched.{WasSafe, touched}
+use Rattle.afr_trace_check.specs.Taken.{BreaksOne, IsOutcomeOf, KeepsRules}
 use Rattle.afr_trace_read.specs.Seen.{seen_line}
 use Rattle.afr_trace_read.specs.Trace.{Told, trace_told}
 use Rattle.afr_trace_read.specs.declared.kinds.TraceLine.{TraceLine}
@@ -59,7 +61,7 @@ extends p broken (x ∷ xs) older = by (fill p older x) (λ l. extends p broken 
   where
     by : (f : Filled) → ((l : Line) → (newer : List Line) × ((built_on p broken xs (l ∷ older)).log ≡ newer ++ (l ∷ older)))
         → (newer : List Line) × ((and_on older f (λ log. built_on p broken xs log)).log ≡ newer ++ older)
-    by (filled.Stands l) more = let r = more l in (r.0 ++ l ∷ [], r.1 ∙ sym (append_assoc {a = r.0} {b = l ∷ []} {c = older}))
+    by (filled.Stands l) more = let r = more l in (r.0 ++ l ∷ [], rw append_assoc r.1)
     by filled.NoLine more = ([], refl)
     by filled.OtherWords more = ([], refl)
 
@@ -139,3 +141,50 @@ module _ (p : Plan) (whole : Built) (broken : Bool) (xs : List SpelledLine) (i :
       by : (f : Bool) → whole ≡ record { log = older; end = end_of f } → IsFoundIn p whole (if f then finding.No (length older) rule.Text else finding.Yes (length older))
       by true e = found_end p whole older NoLine rule.Text e all refl
       by false e = found_whole p whole older e all
+
+-- ---- one line
+-- a test that fails
+pub never_if : (flag : Bool) (P : Type 0) → flag ≡ false → (flag ≡ true) ↔ P → P → ⊥
+never_if flag P e told h = let passed : flag ≡ true = told.1 h in absurd (cc (e, passed))
+
+some_has : (o : Option Rule) (P : Rule → Type 0) (r : Rule) → o ≡ Some r → IfSome o P → P r
+some_has None P r e h = absurd (cc e)
+some_has (Some b) P r e h = subst P (same_Some b r e) h
+
+none_has : (o : Option Rule) (P : Type 0) → o ≡ None → IfNone o P → P
+none_has None P e h = h
+none_has (Some b) P e h = absurd (cc e)
+
+-- one more line of the code's log
+pub log_more : (xs ys : List Line) (l : Line) → ys ≡ xs ++ l ∷ [] → reverse ys ≡ l ∷ reverse xs
+log_more xs ys l e = ap (λ (t : List Line). reverse t) e ∙ reverse-append xs (l ∷ [])
+
+-- it breaks a rule that speaks of it alone
+pub outcome_broken : (p : Plan) (l : Line) (slice items : List Line) (o : Option Rule) (r : Rule) → slice ≡ items → o ≡ Some r → IfSome o (λ b. BreaksOne p l (reverse slice) b) → EveryPrefix (IsRight p) (reverse items) → BreaksFirst p (l ∷ reverse items) r
+outcome_broken p l slice items o r e is h all =
+    subst (λ (xs : List Line). BreaksFirst p (l ∷ reverse xs) r) e (some_has o (λ b. BreaksOne p l (reverse slice) b) r is h (subst (λ (xs : List Line). EveryPrefix (IsRight p) (reverse xs)) (sym e) all))
+
+pub keeps_rules : (p : Plan) (l : Line) (slice items : List Line) (o : Option Rule) → slice ≡ items → o ≡ None → IfNone o (KeepsRules p l (reverse slice)) → KeepsRules p l (reverse items)
+keeps_rules p l slice items o e is h = subst (λ (xs : List Line). KeepsRules p l (reverse xs)) e (none_has o (KeepsRules p l (reverse slice)) is h)
+
+-- what the judge of safe logs asks
+pub was_safe : (p : Plan) (l : Line) (items slice more more_slice : List Line) (objects object_slice : List Gfid) → more_slice ≡ more → more ≡ items ++ l ∷ [] → slice ≡ items → object_slice ≡ objects → objects ≡ touched p l (reverse slice)
+    → EveryPrefix (IsRight p) (reverse items) → WasSafe p (reverse more_slice) object_slice
+was_safe p l items slice more more_slice objects object_slice e f g h k all =
+    rw (e, log_more items more l f) ((right_now p (reverse items) all).safe, h ∙ k ∙ ap (λ (xs : List Line). touched p l (reverse xs)) g)
+
+module _ (p : Plan) (l : Line) (items more more_slice : List Line) (safe : Bool) (e : more_slice ≡ more) (f : more ≡ items ++ l ∷ []) (told : (safe ≡ true) ↔ IsSafe p (reverse more_slice)) (all : EveryPrefix (IsRight p) (reverse items)) (keeps : KeepsRules p l (reverse items)) where
+  same_log : reverse more_slice ≡ l ∷ reverse items
+  same_log = ap (λ (t : List Line). reverse t) e ∙ log_more items more l f
+
+  pub outcome_unsafe : safe ≡ false → BreaksFirst p (l ∷ reverse items) rule.Safe
+  outcome_unsafe no_safe =
+      breaks_safe p l (reverse items) all keeps.follows keeps.honest keeps.blamed (λ h. never_if safe (IsSafe p (reverse more_slice)) no_safe told (subst (λ (log : List Line). IsSafe p log) (sym same_log) h))
+
+  pub outcome_taken : safe ≡ true → (reverse more ≡ l ∷ reverse items) × EveryPrefix (IsRight p) (reverse more)
+  outcome_taken is_safe =
+      let log : reverse more ≡ l ∷ reverse items = log_more items more l f in (
+        log,
+        subst (λ (xs : List Line). EveryPrefix (IsRight p) xs) (sym log)
+        (right_next p l (reverse items) all keeps.follows keeps.honest keeps.blamed (subst (λ (xs : List Line). IsSafe p xs) same_log (told.0 is_safe))),
+      )

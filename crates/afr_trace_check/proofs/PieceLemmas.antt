@@ -1,5 +1,5 @@
--- A copied piece that a text stands for ends within the longest file, and its bytes fit in it.
-use Rattle.std.proofs.Common.{◌≡◌, ◌∙◌, ℕ, ◌+◌, ◌<◌, ◌≤◌, ◌==◌, ◌&&◌, nat_le, Bool, true, false, List, ◌∷◌, Option, Some, None, length, refl, sym, ap, subst, arith, IfSome, if◌then◌else◌}
+-- What is so of a line that a text stands for: a piece that it copies ends within the longest file, and its bytes fit in it; it asks a brick that there is.
+use Rattle.std.proofs.Common.{◌≡◌, ◌∙◌, ℕ, ◌+◌, ◌<◌, ◌≤◌, ◌==◌, ◌&&◌, ◌||◌, nat_le, nat_lt, Bool, true, false, List, ◌∷◌, Option, Some, None, length, refl, sym, ap, subst, arith, IfSome, if◌then◌else◌}
 use Rattle.std.specs.Prelude.{option_map}
 use Rattle.std.proofs.lemmas.Bool.{eqb-true}
 use Rattle.std.proofs.lemmas.Bool.Decides.{nat_tests}
@@ -9,6 +9,8 @@ use Rattle.afr_base.specs.declared.ids.ActorId.{ActorId}
 use Rattle.afr_base.specs.declared.ids.BrickId.{BrickId}
 use Rattle.afr_lines.specs.Areas.{kind_for}
 use Rattle.afr_lines.specs.Log.{change_at, from_oldest}
+use Rattle.afr_lines.specs.Work.{ended}
+use Rattle.afr_lines.specs.declared.answer.Told.{Told}
 use Rattle.afr_lines.specs.declared.line.Line.{Line}
 use Rattle.afr_lines.specs.declared.line.Line.TheVariants as line
 use Rattle.afr_lines.specs.declared.request.Request.{Request}
@@ -21,8 +23,11 @@ use Rattle.afr_plan.specs.Reading.{checked}
 use Rattle.afr_plan.specs.declared.command.Command.{Command}
 use Rattle.afr_plan.specs.declared.command.Command.TheVariants as command
 use Rattle.afr_plan.specs.declared.plan.Plan.{Plan}
+use Rattle.afr_model.specs.Actors.{works_of}
+use Rattle.afr_trace_follow.specs.Following.{HasFewActors}
+use Rattle.afr_trace_tally.specs.Tally.{AsksKnown}
 use Rattle.afr_trace_build.specs.Filling.{asked_line, begun, begun_write, done_by, fill, has_work, heal_reply_from, is_event_of, is_heal_end, present, reply_from, where_named}
-use Rattle.afr_trace_build.specs.Requests.{area_from, asks_for, is_answer, is_attrs_read, is_brick, is_read, flagged_bricks, may_all_miss, no_slots, placed_reads, post_from, request_from}
+use Rattle.afr_trace_build.specs.Requests.{area_from, asks_for, is_actor, is_answer, is_attrs_read, is_brick, is_read, flagged_bricks, may_all_miss, no_slots, placed_reads, post_from, request_from, told_from, took_from}
 use Rattle.afr_trace_build.specs.Shown.{ask_shown, read_len, shown_by}
 use Rattle.afr_trace_build.specs.declared.filling.Filled.{Filled}
 use Rattle.afr_trace_build.specs.declared.filling.Filled.TheVariants as filled
@@ -89,52 +94,84 @@ module _ (p : Plan) (older : List Line) where
   request_fits b told (asked.CutTo g len) r e = subst (PieceFits p older) (same_Some (request.Mend (repair.CutTo g len)) r e) tt
   request_fits b told (asked.Settle g kind less) r e = subst (PieceFits p older) (same_Some (request.Settle g kind less) r e) tt
 
-  asked_fits : (a : ActorId) (b : BrickId) (known : Shown) (told : Answered) (o : Option Request) (l : Line) → ((r : Request) → o ≡ Some r → PieceFits p older r) → asked_line a b known told o ≡ filled.Stands l → LineFits p older l
-  asked_fits a b known told None l h e = absurd (cc e)
-  asked_fits a b known told (Some r) l h e = subst (LineFits p older) (same_line _ l e) (h r refl)
-    where
-      same_line : (m n : Line) → filled.Stands m ≡ filled.Stands n → m ≡ n
-      same_line m n k = cc k
-
-  named_fits : (named : Bool) (f : Filled) (l : Line) → (f ≡ filled.Stands l → LineFits p older l) → where_named named f ≡ filled.Stands l → LineFits p older l
-  named_fits true f l h e = h e
-  named_fits false f l h e = absurd (cc e)
-
+-- ---- lines that texts stand for
 stands_same : (m n : Line) → filled.Stands m ≡ filled.Stands n → m ≡ n
 stands_same m n k = cc k
 
--- a line that asks nothing has no piece
-no_piece : (p : Plan) (older : List Line) (m l : Line) → LineFits p older m → filled.Stands m ≡ filled.Stands l → LineFits p older l
-no_piece p older m l h e = subst (LineFits p older) (stands_same m l e) h
+abbrev asks_nothing : Line → Bool
+asks_nothing (line.Ask a b r told took) = false
+asks_nothing l = true
 
-begun_fits : (p : Plan) (older : List Line) (a : ActorId) (s : SpelledChange) (l : Line) → begun p older a s ≡ filled.Stands l → LineFits p older l
-begun_fits p older a (changing.Write g at len) l e = by (present p a older) e
-  where
-    by_len : (f : Bool) (m : Line) → LineFits p older m → (if f then filled.Stands m else filled.OtherWords) ≡ filled.Stands l → LineFits p older l
-    by_len true m h k = no_piece p older m l h k
-    by_len false m h k = absurd (cc k)
+-- a fact of each line that asks nothing, and of each that asks a brick of the plan what its text says
+module _ (P : Line → Type 0) (p : Plan) (older : List Line) (quiet : (l : Line) → asks_nothing l ≡ true → P l) (asks : (a : ActorId) (b : BrickId) (r : Request) (told : Told) (took : Bool) (s : SpelledRequest) (answer : Answered) → is_actor p a.0 ≡ true → is_brick p b.0 ≡ true → request_from p older (ask_shown p older b.0 s answer) s ≡ Some r → P (line.Ask a b r told took)) where
+  same_has : (m l : Line) → P m → filled.Stands m ≡ filled.Stands l → P l
+  same_has m l h e = subst P (stands_same m l e) h
 
-    by : (o : Option Command) → begun_write a g at len o ≡ filled.Stands l → LineFits p older l
-    by (Some (command.Write path off bytes)) k = by_len (length bytes == len) (line.Begin a (change.Write g at bytes)) tt k
-    by o k = absurd (cc k)
-begun_fits p older a (changing.Cut g len) l e = no_piece p older (line.Begin a (change.Cut g len)) l tt e
-begun_fits p older a (changing.SetAttr g key value) l e = no_piece p older (line.Begin a (change.SetAttr g key value)) l tt e
-begun_fits p older a (changing.Make what dir name g) l e = no_piece p older (line.Begin a (change.Make dir name g what)) l tt e
-begun_fits p older a (changing.Remove what dir name) l e = no_piece p older (line.Begin a (change.Remove dir name what)) l tt e
+  named_has : (named : Bool) (f : Filled) (l : Line) → (named ≡ true → f ≡ filled.Stands l → P l) → where_named named f ≡ filled.Stands l → P l
+  named_has true f l h e = h refl e
+  named_has false f l h e = absurd (cc e)
 
-done_fits : (p : Plan) (older : List Line) (a : ActorId) (does : Doing) (text : List ℕ) (l : Line) → done_by p older (shown_by p older (trace_line.Of a does)) a does text ≡ filled.Stands l → LineFits p older l
-done_fits p older a (doing.Ask b r told) text l e =
-    named_fits p older (is_brick p b.0 && is_answer p told) (asked_line a b (ask_shown p older b.0 r told) told (request_from p older (ask_shown p older b.0 r told) r)) l
-    (λ k. asked_fits p older a b (ask_shown p older b.0 r told) told (request_from p older (ask_shown p older b.0 r told) r) l (λ s f. request_fits p older b.0 told r s f) k) e
-done_fits p older a (doing.HealBegin kind g) text l e = no_piece p older (line.HealBegin a g kind) l tt e
-done_fits p older a (doing.Begin spelled) text l e = begun_fits p older a spelled l e
-done_fits p older a (doing.HealEnd kind g end) text l e =
-    named_fits p older (is_heal_end p end) (filled.Stands (line.HealEnd a g kind (heal_reply_from (shown_by p older (trace_line.Of a (doing.HealEnd kind g end))) end))) l
-    (λ k. no_piece p older (line.HealEnd a g kind (heal_reply_from (shown_by p older (trace_line.Of a (doing.HealEnd kind g end))) end)) l tt k) e
-done_fits p older a (doing.End end) text l e = no_piece p older (line.End a (reply_from p older (shown_by p older (trace_line.Of a (doing.End end))) a end text)) l tt e
+  begun_has : (a : ActorId) (s : SpelledChange) (l : Line) → begun p older a s ≡ filled.Stands l → P l
+  begun_has a (changing.Write g at len) l e = by (present p a older) e
+    where
+      by_len : (f : Bool) (m : Line) → P m → (if f then filled.Stands m else filled.OtherWords) ≡ filled.Stands l → P l
+      by_len true m h k = same_has m l h k
+      by_len false m h k = absurd (cc k)
 
--- a line that a text stands for has a piece that fits, where it copies one
+      by : (o : Option Command) → begun_write a g at len o ≡ filled.Stands l → P l
+      by (Some (command.Write path off bytes)) k = by_len (length bytes == len) (line.Begin a (change.Write g at bytes)) (quiet (line.Begin a (change.Write g at bytes)) refl) k
+      by o k = absurd (cc k)
+  begun_has a (changing.Cut g len) l e = same_has (line.Begin a (change.Cut g len)) l (quiet (line.Begin a (change.Cut g len)) refl) e
+  begun_has a (changing.SetAttr g key value) l e = same_has (line.Begin a (change.SetAttr g key value)) l (quiet (line.Begin a (change.SetAttr g key value)) refl) e
+  begun_has a (changing.Make what dir name g) l e = same_has (line.Begin a (change.Make dir name g what)) l (quiet (line.Begin a (change.Make dir name g what)) refl) e
+  begun_has a (changing.Remove what dir name) l e = same_has (line.Begin a (change.Remove dir name what)) l (quiet (line.Begin a (change.Remove dir name what)) refl) e
+
+  asked_has : (a : ActorId) (b : BrickId) (s : SpelledRequest) (answer : Answered) → is_actor p a.0 ≡ true → is_brick p b.0 ≡ true → (o : Option Request) → request_from p older (ask_shown p older b.0 s answer) s ≡ o → (l : Line)
+      → asked_line a b (ask_shown p older b.0 s answer) answer o ≡ filled.Stands l → P l
+  asked_has a b s answer actor brick None e l k = absurd (cc k)
+  asked_has a b s answer actor brick (Some r) e l k =
+      same_has (line.Ask a b r (told_from (ask_shown p older b.0 s answer) answer) (took_from answer)) l (asks a b r (told_from (ask_shown p older b.0 s answer) answer) (took_from answer) s answer actor brick e) k
+
+  done_has : (a : ActorId) (does : Doing) (text : List ℕ) (l : Line) → is_actor p a.0 ≡ true → done_by p older (shown_by p older (trace_line.Of a does)) a does text ≡ filled.Stands l → P l
+  done_has a (doing.Ask b s answer) text l actor e =
+      named_has (is_brick p b.0 && is_answer p answer) (asked_line a b (ask_shown p older b.0 s answer) answer (request_from p older (ask_shown p older b.0 s answer) s)) l
+      (λ named k. asked_has a b s answer actor (and_left (is_brick p b.0) (is_answer p answer) named) (request_from p older (ask_shown p older b.0 s answer) s) refl l k) e
+  done_has a (doing.HealBegin kind g) text l actor e = same_has (line.HealBegin a g kind) l (quiet (line.HealBegin a g kind) refl) e
+  done_has a (doing.Begin spelled) text l actor e = begun_has a spelled l e
+  done_has a (doing.HealEnd kind g end) text l actor e =
+      named_has (is_heal_end p end) (filled.Stands (line.HealEnd a g kind (heal_reply_from (shown_by p older (trace_line.Of a (doing.HealEnd kind g end))) end))) l
+      (λ named k. same_has (line.HealEnd a g kind (heal_reply_from (shown_by p older (trace_line.Of a (doing.HealEnd kind g end))) end)) l
+        (quiet (line.HealEnd a g kind (heal_reply_from (shown_by p older (trace_line.Of a (doing.HealEnd kind g end))) end)) refl) k) e
+  done_has a (doing.End end) text l actor e =
+      same_has (line.End a (reply_from p older (shown_by p older (trace_line.Of a (doing.End end))) a end text)) l (quiet (line.End a (reply_from p older (shown_by p older (trace_line.Of a (doing.End end))) a end text)) refl) e
+
+  pub filled_has : (x : TraceLine × List ℕ) (l : Line) → fill p older x ≡ filled.Stands l → P l
+  filled_has (trace_line.Event happens, text) l e = named_has (is_event_of p happens) (filled.Stands (line.Event happens)) l (λ named k. same_has (line.Event happens) l (quiet (line.Event happens) refl) k) e
+  filled_has (trace_line.Of a does, text) l e =
+      named_has (has_work p older a) (done_by p older (shown_by p older (trace_line.Of a does)) a does text) l
+      (λ named k. done_has a does text l (and_left (is_actor p a.0) (nat_lt (ended a.0 older) (works_of p a.0)) named) k) e
+
+-- ---- what is so of them
+quiet_fits : (p : Plan) (older : List Line) (l : Line) → asks_nothing l ≡ true → LineFits p older l
+quiet_fits p older (line.Ask a b r told took) h = absurd (cc h)
+quiet_fits p older l h = tt
+
+-- a piece that one copies fits
 pub filled_fits : (p : Plan) (older : List Line) (x : TraceLine × List ℕ) (l : Line) → fill p older x ≡ filled.Stands l → LineFits p older l
-filled_fits p older (trace_line.Event happens, text) l e = named_fits p older (is_event_of p happens) (filled.Stands (line.Event happens)) l (λ k. no_piece p older (line.Event happens) l tt k) e
-filled_fits p older (trace_line.Of a does, text) l e =
-    named_fits p older (has_work p older a) (done_by p older (shown_by p older (trace_line.Of a does)) a does text) l (λ k. done_fits p older a does text l k) e
+filled_fits p older x l e = filled_has (LineFits p older) p older (quiet_fits p older) (λ a b r told took s answer actor brick k. request_fits p older b.0 answer s r k) x l e
+
+quiet_known : (l : Line) → asks_nothing l ≡ true → AsksKnown l
+quiet_known (line.Ask a b r told took) h = absurd (cc h)
+quiet_known l h = tt
+
+actor_low : (a clients healers : ℕ) → clients ≤ 16 → healers ≤ 3 → ((nat_le 1 a && nat_le a clients) || (nat_le 17 a && nat_le a (16 + healers))) ≡ true → a < 20
+actor_low a clients healers c h k = grind (arith, nat_tests, c, h, k)
+
+brick_low : (b n : ℕ) → n ≤ 5 → nat_lt b n ≡ true → b < 5
+brick_low b n few h = grind (arith, nat_tests, few, h)
+
+-- one that asks is of one of twenty actors, and asks one of five bricks
+pub filled_known : (p : Plan) (older : List Line) (x : TraceLine × List ℕ) (l : Line) → p.shape.n ≤ 5 → HasFewActors p → fill p older x ≡ filled.Stands l → AsksKnown l
+filled_known p older x l five few e =
+    filled_has AsksKnown p older quiet_known
+    (λ a b r told took s answer actor brick k. (actor_low a.0 (length p.clients) (length p.healers) few.clients few.healers actor, brick_low b.0 p.shape.n five brick)) x l e

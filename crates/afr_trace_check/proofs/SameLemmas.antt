@@ -54,14 +54,14 @@ once n x xs all = by (member xs x) refl
 
 not_removed : (x : ℕ) (xs : List ℕ) → member xs x ≡ false → removed x xs ≡ xs
 not_removed x [] h = refl
-not_removed x (y ∷ ys) h = by (eqb_tells y x) h
+not_removed x (y ∷ ys) h = by (eqb_tells y x) h (not_removed x ys)
   where
-    by : ((y == x) ≡ true) × (y ≡ x) ⊎ ((y == x) ≡ false) × (y ≡ x → ⊥) → ((y == x) || member ys x) ≡ false → removed x (y ∷ ys) ≡ y ∷ ys
-    by (inl s) k = absurd (cc (rw s.0 at k))
-    by (inr s) k =
+    by : ((y == x) ≡ true) × (y ≡ x) ⊎ ((y == x) ≡ false) × (y ≡ x → ⊥) → ((y == x) || member ys x) ≡ false → (member ys x ≡ false → removed x ys ≡ ys) → removed x (y ∷ ys) ≡ y ∷ ys
+    by (inl s) k more = absurd (cc (rw s.0 at k))
+    by (inr s) k more =
         let other : (x == y) ≡ false = grind (arith, nat_tests, s.1) in
         let out : member ys x ≡ false = rw s.0 at k in
-        rw other (ap (λ (t : List ℕ). y ∷ t) (not_removed x ys out))
+        rw other (ap (λ (t : List ℕ). y ∷ t) (more out))
 
 first_out : (x : ℕ) (xs : List ℕ) → removed x (x ∷ xs) ≡ removed x xs
 first_out x xs = grind (arith, nat_tests)

@@ -1,11 +1,12 @@
 //! The check of a whole trace, line by line.
-ghost use Rattle.std.specs.Prelude.{Err, ◌≡◌, ◌↔◌, ◌<◌, ◌≤◌, [], ◌∷◌, IfNone, IfOk, IfSome, OnOk, false, length, map, reverse, if◌then◌else◌};
+ghost use Rattle.std.specs.Prelude.{Err, None, ◌≡◌, ◌↔◌, ◌<◌, ◌≤◌, [], ◌∷◌, IfNone, IfOk, IfSome, OnOk, false, length, map, reverse, if◌then◌else◌};
 ghost use Rattle.afr_lines.specs.Log.{EveryPrefix};
 ghost use Rattle.afr_trace_build.specs.Built.{built_on};
 ghost use Rattle.afr_trace_build.specs.Filling.{fill};
 ghost use Rattle.afr_trace_check.specs.Right.{IsFound, IsFoundIn, IsPastLimit, IsRight};
 ghost use Rattle.afr_trace_check.specs.Taken.{BreaksOne, IsOutcome, IsOutcomeOf, IsTaken, KeepsRules, log_of};
 ghost use Rattle.afr_trace_follow.specs.Following.{HasFewActors};
+ghost use Rattle.afr_trace_follow.specs.Lists.{AreLists};
 ghost use Rattle.afr_trace_limits.specs.Limits.{is_past_limit};
 ghost use Rattle.afr_trace_read.specs.Seen.{seen_line};
 ghost use Rattle.afr_trace_read.specs.Trace.{line_feeds};
@@ -40,20 +41,26 @@ pub(crate) struct Taken {
 }
 
 /// What a line breaks of the rules that speak of it alone.
-fn broken_by(taken: &Taken, plan: &Plan, line: &Line) -> Option<Rule>
-    requires taken { IsTaken plan.now taken.now }
+fn broken_by(
+    tally: &Tally,
+    lists: &Lists,
+    plan: &Plan,
+    log: &[Line],
+    line: &Line,
+) -> Option<Rule>
+    requires tally { IsTally plan.now (reverse log.now) tally.now }
+    requires lists { AreLists plan.now (reverse log.now) lists.now }
     requires shape { plan.now.shape.n ≤ 5 }
     requires actors { HasFewActors plan.now }
     requires known { AsksKnown line.now }
-    requires few { length taken.now.log.items < 2147483648 }
-    ensures none { IfNone result (KeepsRules plan.now line.now (log_of taken.now)) }
-    ensures some { IfSome result (λ broken. BreaksOne plan.now line.now (log_of taken.now) broken) }
+    requires few { length log.now < 2147483648 }
+    ensures none { IfNone result (KeepsRules plan.now line.now (reverse log.now)) }
+    ensures some { IfSome result (λ broken. BreaksOne plan.now line.now (reverse log.now) broken) }
 {
-    let log = taken.log.as_slice();
-    if !is_following(&taken.tally, plan, log, &taken.lists, line) {
+    if !is_following(tally, plan, log, lists, line) {
         return Some(Rule::Follows);
     }
-    if !is_honest(&taken.tally, plan, log, line) {
+    if !is_honest(tally, plan, log, line) {
         return Some(Rule::Honest);
     }
     if !is_blamed(plan, log, line) {
@@ -62,53 +69,48 @@ fn broken_by(taken: &Taken, plan: &Plan, line: &Line) -> Option<Rule>
     None
 }
 
+/// One more line in the tally. The files have room for it.
 fn add_to_tally(
     tally: &mut Tally,
     alloc: Global,
     plan: &Plan,
-    older: &[Line],
+    log: &[Line],
     line: &Line,
 ) -> Result<(), NoMemory>
-    requires was { IsTally plan.now (reverse older.now) tally.old }
+    requires was { IsTally plan.now (reverse log.now) tally.old }
     requires known { AsksKnown line.now }
-    requires few { length older.now < 2147483648 }
-    requires room { HasRoom plan.now line.now (reverse older.now) }
-    ensures { OnOk result (IsTally plan.now (line.now ∷ reverse older.now) tally.new) }
+    requires few { length log.now < 2147483648 }
+    requires room { HasRoom plan.now line.now (reverse log.now) }
+    ensures { OnOk result (IsTally plan.now (line.now ∷ reverse log.now) tally.new) }
 {
-    match tally.add(alloc, plan, older, line) {
+    match tally.add(alloc, plan, log, line) {
         Ok(()) => Ok(()),
         Err(TallyStop::NoMemory) => Err(NoMemory),
         Err(TallyStop::TooLong) => unreachable!(),
     }
 }
 
-/// Takes a line, and tells the objects that it touches.
+/// One more line in what is kept, and the objects that it touches.
 fn add(
-    taken: &mut Taken,
+    tally: &mut Tally,
+    lists: &mut Lists,
     alloc: Global,
     plan: &Plan,
-    line: Line,
+    log: &[Line],
+    line: &Line,
 ) -> Result<Vec<Gfid>, NoMemory>
-    requires was { IsTaken plan.now taken.old }
-    requires known { AsksKnown line }
-    requires few { length taken.old.log.items < 2147483648 }
-    requires room { HasRoom plan.now line (log_of taken.old) }
-    ensures taken { OnOk result (IsTaken plan.now taken.new) }
-    ensures log { OnOk result (log_of taken.new ≡ line ∷ log_of taken.old) }
-    ensures objects { IfOk result (λ objects. objects.items ≡ touched plan.now line (log_of taken.old)) }
+    requires tally { IsTally plan.now (reverse log.now) tally.old }
+    requires lists { AreLists plan.now (reverse log.now) lists.old }
+    requires known { AsksKnown line.now }
+    requires few { length log.now < 2147483648 }
+    requires room { HasRoom plan.now line.now (reverse log.now) }
+    ensures tally { OnOk result (IsTally plan.now (line.now ∷ reverse log.now) tally.new) }
+    ensures lists { OnOk result (AreLists plan.now (line.now ∷ reverse log.now) lists.new) }
+    ensures objects { IfOk result (λ objects. objects.items ≡ touched plan.now line.now (reverse log.now)) }
 {
-    let objects = touched(alloc, &taken.tally, plan, taken.log.as_slice(), &line)?;
-    taken
-        .lists
-        .add(alloc, &taken.tally, plan, taken.log.as_slice(), &line)?;
-    add_to_tally(
-        &mut taken.tally,
-        alloc,
-        plan,
-        taken.log.as_slice(),
-        &line,
-    )?;
-    taken.log.push(line)?;
+    let objects = touched(alloc, tally, plan, log, line)?;
+    lists.add(alloc, tally, plan, log, line)?;
+    add_to_tally(tally, alloc, plan, log, line)?;
     Ok(objects)
 }
 
@@ -128,14 +130,28 @@ fn take(
     requires known { AsksKnown line }
     requires few { length taken.old.log.items < 2147483647 }
     requires room { HasRoom plan.now line (log_of taken.old) }
-    ensures taken { OnOk result (IsTaken plan.now taken.new) }
+    ensures taken { IfOk result (λ outcome. outcome ≡ None → IsTaken plan.now taken.new) }
     ensures outcome { IfOk result (λ outcome. IsOutcome plan.now line (log_of taken.old) (log_of taken.new) outcome) }
 {
-    let broken = broken_by(taken, plan, &line);
+    let broken = broken_by(
+        &taken.tally,
+        &taken.lists,
+        plan,
+        taken.log.as_slice(),
+        &line,
+    );
     if let Some(rule) = broken {
         return Ok(Some(rule));
     }
-    let objects = add(taken, alloc, plan, line)?;
+    let objects = add(
+        &mut taken.tally,
+        &mut taken.lists,
+        alloc,
+        plan,
+        taken.log.as_slice(),
+        &line,
+    )?;
+    taken.log.push(line)?;
     let safe = is_safe(
         alloc,
         first,
@@ -144,7 +160,10 @@ fn take(
         taken.log.as_slice(),
         objects.as_slice(),
     )?;
-    if safe { Ok(None) } else { Ok(Some(Rule::Safe)) }
+    if !safe {
+        return Ok(Some(Rule::Safe));
+    }
+    Ok(None)
 }
 
 /// Judges what a text stands for.
@@ -162,7 +181,7 @@ fn next(
     requires actors { HasFewActors plan.now }
     requires short { is_past_limit plan.now ≡ false }
     requires few { length taken.old.log.items < 2147483647 }
-    ensures taken { OnOk result (IsTaken plan.now taken.new) }
+    ensures taken { IfOk result (λ outcome. outcome ≡ None → IsTaken plan.now taken.new) }
     ensures outcome { IfOk result (λ outcome. IsOutcomeOf plan.now (log_of taken.old) (log_of taken.new) (fill plan.now (log_of taken.old) (seen_line spelled.now)) outcome) }
 {
     let line = filled(

@@ -1,6 +1,5 @@
-use Rattle.std.proofs.Common.{◌∙◌, sym, ap, arith, length}
-use Rattle.afr_trace_check.proofs.SameLemmas.{both_same, none_same, some_same}
+use Rattle.std.proofs.Common.{ap, arith, length}
 use Rattle.afr_trace_check.proofs.blamed.+same.Goals as goal
 
-pub same-requires : goal.same-requires
-same-requires t c = omega (arith, ap length c.rest.ensures)
+pub same-more-requires : goal.same-more-requires
+same-more-requires t c = omega (arith, ap length c.rest.ensures)
