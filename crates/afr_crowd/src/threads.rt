@@ -20,13 +20,7 @@ pub fn run_crowd<
     G: Fn(&[Candidate]) -> usize + Sync,
     S: Crowd + Send + Drop,
     H: Gate + Sync,
->(
-    rt: &R,
-    crowd: S,
-    actors: &[ActorId],
-    rules: &Rules<F, G>,
-    gate: &H,
-) -> S
+>(rt: &R, crowd: S, actors: &[ActorId], rules: &Rules<F, G>, gate: &H) -> S
     requires rule { IsRule F.Fn rules.now.heal }
     requires read_rule { IsRule G.Fn rules.now.read }
     requires actors { (i : ℕ) (a : ActorId) → slice_get actors.now i ≡ Some a → S.acts a.0 }
@@ -113,14 +107,7 @@ fn take_turns<
     G: Fn(&[Candidate]) -> usize,
     S: Crowd,
     H: Gate,
->(
-    rt: &R,
-    shared: &Mutex<S>,
-    moved: &Condvar,
-    a: ActorId,
-    rules: &Rules<F, G>,
-    gate: &H,
-)
+>(rt: &R, shared: &Mutex<S>, moved: &Condvar, a: ActorId, rules: &Rules<F, G>, gate: &H)
     requires rule { IsRule F.Fn rules.now.heal }
     requires read_rule { IsRule G.Fn rules.now.read }
     requires actor { S.acts a.0 }
