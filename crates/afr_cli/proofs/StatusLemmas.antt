@@ -12,7 +12,7 @@ use Rattle.afr_volume.proofs.ChosenLemmas.{no_volume_chosen}
 use Rattle.afr_volume.specs.State.{IsChosen, State, no_volume}
 use Rattle.afr_model.specs.Ordered.{IsOrdered, Writes}
 use Rattle.afr_model.specs.Complete.{IsComplete}
-use Rattle.afr_words.specs.Forms.{AreForm, AskFor}
+use Rattle.afr_words.specs.Forms.{AreForm, AskCheck, AskFor}
 use Rattle.afr_words.specs.declared.form.Form.{Form}
 use Rattle.afr_words.specs.declared.form.Form.TheVariants as kind
 use Rattle.afr_gen.specs.Generated.{generated}
@@ -32,8 +32,8 @@ pub other_status : (r s n : ℕ) (A : Type 0) → (r ≢ 5 → (r ≡ s) × A) �
 other_status r s n A whole not_5 not_s e = not_s (sym e ∙ (whole (λ five. not_5 (sym e ∙ five))).0)
 
 module _ {S : Type 0} (words : List (String Global)) (left : S → Option (List ℕ)) (source source' : S) (taken taken' : Option (List ℕ)) (now : State) where
-  pub stops_at_usage : (AreForm words → ⊥) → source' ≡ source → now ≡ no_volume → AppendsFront taken taken' usage_line → StopsWriting words left source source' taken taken' now
-  stops_at_usage other same none front = record { text = usage_line; known = IsText.Usage other same none; front = front }
+  pub stops_at_usage : (AreForm words → ⊥) → (AskCheck words → ⊥) → source' ≡ source → now ≡ no_volume → AppendsFront taken taken' usage_line → StopsWriting words left source source' taken taken' now
+  stops_at_usage other unchecked same none front = record { text = usage_line; known = IsText.Usage other unchecked same none; front = front }
 
   pub stops_at_refusal : (fault : PlanFault) → AreReading words → IsRefused (left source) (left source') fault → now ≡ no_volume
       → AppendsFront taken taken' (refusal_line fault) → StopsWriting words left source source' taken taken' now
