@@ -18,6 +18,15 @@ abbrev pub first_items : ℕ → List (Option (List (Gfid × What))) → ℕ
 first_items rounds [] = 0
 first_items rounds (list ∷ older) = if nat_lt (length older) rounds then length_of list + first_items rounds older else first_items rounds older
 
+-- none come before the first
+pub first_none : (lists : List Listed) → first_items 0 lists ≡ 0
+first_none [] = refl
+first_none (list ∷ older) = by (nat_lt (length older) 0) refl (first_none older)
+  where
+    by : (there : Bool) → nat_lt (length older) 0 ≡ there → first_items 0 older ≡ 0 → (if there then length_of list + first_items 0 older else first_items 0 older) ≡ 0
+    by true e rest = absurd (grind (arith, nat_tests, e))
+    by false e rest = rest
+
 -- a round that isn't there has no list
 past : (rounds : ℕ) (lists : List Listed) → length lists ≤ rounds → from_oldest rounds lists ≡ None
 past rounds [] h = refl

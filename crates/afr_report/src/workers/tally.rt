@@ -92,9 +92,15 @@ fn kills_at(log: &Log, at: usize) -> bool
     ensures { (line : Line) → slice_get log.now.items at ≡ Some line → result ≡ (kills 18 line || kills 19 line) }
 {
     match log.told_at(at) {
-        Some(line) => kills(ActorId(SECOND), line) || kills(ActorId(THIRD), line),
+        Some(line) => kills_worker(line),
         None => false,
     }
+}
+
+fn kills_worker(line: &Line) -> bool
+    ensures { result ≡ (kills 18 line.now || kills 19 line.now) }
+{
+    kills(ActorId(SECOND), line) || kills(ActorId(THIRD), line)
 }
 
 /// The tasks of both workers that have ended.

@@ -1,8 +1,11 @@
 -- One round more, and all of them.
-use Rattle.std.proofs.Common.{◌≡◌, ◌∙◌, ℕ, ap, arith}
+use Rattle.std.proofs.Common.{◌≡◌, ◌∙◌, ℕ, ap, arith, sym}
 use Rattle.afr_model.specs.Crawl.{lists_by}
-use Rattle.afr_report.proofs.ItemLemmas.{all_items, first_items, first_more}
+use Rattle.afr_report.proofs.ItemLemmas.{all_items, first_items, first_more, first_none}
 use Rattle.afr_report.proofs.workers.items.items_given.Goals as goal
+
+pub loop-round-init : goal.loop-round-init
+loop-round-init c = record { items = sym (first_none (lists_by c.args.volume.now.plan c.args.volume.now.log)); few = omega arith }
 
 pub loop-round-preserved : goal.loop-round-preserved
 loop-round-preserved c =

@@ -8,8 +8,8 @@ use Rattle.afr_report_info.proofs.VolumeLemmas.{handed_out}
 use Rattle.afr_report.specs.Workers.{items_given, report_for}
 use Rattle.afr_report.proofs.workers.of_volume.crawl_text.Goals as goal
 
-pub items_given-requires-clause-rounds : goal.items_given-requires-clause-rounds
-items_given-requires-clause-rounds c = c.count_works-all.ensures.rounds ∙ ap (ended 17) c.lines.ensures
+pub items_given-items-requires-clause-rounds : goal.items_given-items-requires-clause-rounds
+items_given-items-requires-clause-rounds c = c.count_works-all.ensures.rounds ∙ ap (ended 17) c.lines.ensures
 
 pub print_crawl-requires-clause-crawler : goal.print_crawl-requires-clause-crawler
 print_crawl-requires-clause-crawler c =

@@ -1,5 +1,5 @@
 -- A stable sort by gfid.
-use Rattle.std.proofs.Common.{◌∙◌, ap, rules, Bor, nat_cmp}
+use Rattle.std.proofs.Common.{◌∙◌, ap, map, rules, Bor}
 use Rattle.std.proofs.lemmas.List.Sorted.{answers_always, IsNonDecreasingBy-from_sort_by_key}
 use Rattle.afr_lines.specs.declared.line.Line.{Line}
 use Rattle.afr_report.specs.Workers.{in_order_by, object_of}
@@ -15,6 +15,6 @@ returns c =
     record {
       ok =
           ap (λ heals. map (λ (line : Bor Line). line.now) heals) (sorted_is_order key _ _ sorted stable)
-          ∙ map-order (λ (line : Bor Line). line.now) object_of _
+          ∙ map-order (λ (line : Bor Line). line.now) object_of c.in_ok-heals.heals.items
           ∙ ap (in_order_by object_of) c.in_ok-heals.ensures.ok;
     }
