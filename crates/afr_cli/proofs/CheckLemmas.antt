@@ -1,17 +1,22 @@
 -- What a check read, a text of it that was cut off, and what a source that tells its bytes is answered with.
-use Rattle.std.proofs.Common.{◌≡◌, ◌∙◌, ◌≤◌, ◌⊎◌, ℕ, List, Option, Some, drop, length, take, refl, sym, ap, inl, inr, arith}
+use Rattle.std.proofs.Common.{◌≡◌, ◌∙◌, ◌≤◌, ◌⊎◌, ℕ, List, Option, Some, Result, Ok, Err, drop, length, take, refl, sym, ap, inl, inr, arith}
 use Rattle.std.specs.Prelude.{String}
 use Rattle.std.specs.Global.{Global}
 use Rattle.std.specs.Io.KnownBytes.{Appends}
 use Rattle.afr_text.specs.Parts.{AppendsFront, CameMore}
+use Rattle.afr_law_runnable.specs.Runnable.{IsRunnable}
 use Rattle.afr_plan.specs.declared.plan.Plan.{Plan}
 use Rattle.afr_plan.specs.declared.plan.PlanFault.{PlanFault}
 use Rattle.afr_plan.specs.Judging.{first_fault}
 use Rattle.afr_plan.specs.Spells.{Spells}
 use Rattle.afr_plan_read.proofs.PlanLemmas.{faulty-spells, same-plan}
+use Rattle.afr_trace_check.specs.Right.{IsFound, IsPastLimit}
+use Rattle.afr_trace_check.specs.declared.finding.CheckStop.{CheckStop}
+use Rattle.afr_trace_check.specs.declared.finding.Finding.{Finding}
+use Rattle.afr_trace_follow.specs.Following.{HasFewActors}
 use Rattle.afr_volume.specs.State.{State, no_volume}
 use Rattle.afr_words.specs.Forms.{AskCheck}
-use Rattle.afr_cli.specs.Checking.{HasPartFault, HasTrace, IsChecked, IsFaultyPart, IsGivenTrace, IsPartRefused, IsToldOf, StopsTelling}
+use Rattle.afr_cli.specs.Checking.{HasPartFault, HasTrace, IsChecked, IsFaultyPart, IsGivenTrace, IsPartRefused, IsSaidOf, IsToldOf, StopsTelling, finding_line, finding_status, limit_line}
 use Rattle.afr_cli.specs.Parts.{IsPlanPart}
 use Rattle.afr_cli.specs.Reading.{WasRead}
 use Rattle.afr_cli.specs.Statuses.{IsText, StopsWriting, refusal_line}
@@ -30,6 +35,40 @@ module _ (left left' : Option (List ℕ)) (bytes part : List ℕ) (len : ℕ) (r
 pub is_checked : (left left' taken taken' : Option (List ℕ)) (plan : Plan) (trace : List ℕ) (status : ℕ) → IsGivenTrace left left' plan trace → IsToldOf plan trace status taken taken'
     → IsChecked left left' taken taken' status
 is_checked left left' taken taken' plan trace status given told = record { plan = plan; trace = trace; given = given; told = told }
+
+-- ---- what is said of it
+-- a plan that could be run has few bricks and actors
+pub few_bricks : (plan : Plan) → IsRunnable plan → plan.shape.n ≤ 5
+few_bricks plan can = omega (arith, can.shape)
+
+pub has_few_actors : (plan : Plan) → IsRunnable plan → HasFewActors plan
+has_few_actors plan can = record { clients = can.clients; healers = can.healers }
+
+-- what was found is no stop
+pub within : (found : Finding) (stop : CheckStop) (r : Result Finding CheckStop) → r ≡ Ok found → r ≡ Err stop → ⊥
+within found stop r is stopped = let same : ◌≡◌ {A = Result Finding CheckStop} (Ok found) (Err stop) = sym is ∙ stopped in cc
+
+-- a status that tells what came of a check is no other
+pub has_status : (r s : ℕ) → (r ≡ 0) ⊎ (r ≡ 11) ⊎ (r ≡ 12) → (r ≡ s) ⊎ (r ≡ 5) ⊎ (r ≡ 6) → r ≡ s
+has_status r s ended (inl e) = e
+has_status r s ended (inr other) = absurd (omega (arith, ended, other))
+
+pub not_five : (r : ℕ) → (r ≡ 0) ⊎ (r ≡ 11) ⊎ (r ≡ 12) → r ≡ 5 → ⊥
+not_five r ended five = omega (arith, ended, five)
+
+module _ (plan : Plan) (trace : List ℕ) (taken taken' : Option (List ℕ)) where
+  pub tells_found : (found : Finding) → (IsPastLimit plan trace → ⊥) → IsFound plan trace found → (r : ℕ) → r ≡ finding_status found → Appends taken taken' (finding_line found)
+      → IsToldOf plan trace r taken taken'
+  tells_found found within is r e line = rw e (record { text = finding_line found; said = IsSaidOf.Finds within found is; line = line })
+
+  pub stops_found : (found : Finding) → (IsPastLimit plan trace → ⊥) → IsFound plan trace found → AppendsFront taken taken' (finding_line found) → StopsTelling plan trace taken taken'
+  stops_found found within is front = record { status = finding_status found; text = finding_line found; said = IsSaidOf.Finds within found is; front = front }
+
+  pub tells_limit : IsPastLimit plan trace → (r : ℕ) → r ≡ 12 → Appends taken taken' limit_line → IsToldOf plan trace r taken taken'
+  tells_limit past r e line = rw e (record { text = limit_line; said = IsSaidOf.PastLimit past; line = line })
+
+  pub stops_at_limit : IsPastLimit plan trace → AppendsFront taken taken' limit_line → StopsTelling plan trace taken taken'
+  stops_at_limit past front = record { status = 12; text = limit_line; said = IsSaidOf.PastLimit past; front = front }
 
 -- ---- a text that was cut off
 module _ {S : Type 0} (words : List (String Global)) (left : S → Option (List ℕ)) (source source' : S) (taken taken' : Option (List ℕ)) (now : State) (asked : AskCheck words) (none : now ≡ no_volume) where

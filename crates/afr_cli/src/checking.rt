@@ -3,6 +3,7 @@ ghost use Rattle.std.specs.Prelude.{◌≡◌, ◌⊎◌, ◌≤◌, List, Err, 
 ghost use Rattle.std.specs.Global.{Global};
 ghost use Rattle.std.specs.Io.KnownBytes.{Appends};
 ghost use Rattle.afr_text.specs.Causes.{Rose};
+ghost use Rattle.afr_law_runnable.specs.Runnable.{IsRunnable};
 ghost use Rattle.afr_plan.specs.declared.plan.PlanFault.{PlanFault};
 ghost use Rattle.afr_volume.specs.State.{State, no_volume};
 ghost use Rattle.afr_words.specs.Forms.{AskCheck};
@@ -14,6 +15,7 @@ use crate::messages::{PAST_LIMIT, answer, refuse};
 use crate::parts::plan_len;
 use crate::reading::{Unread, read_whole};
 use crate::status::Status;
+use afr_law_runnable::every_spelled_plan_runs;
 use afr_plan::{Plan, PlanStop};
 use afr_plan_read::read_plan;
 use afr_text::{Sink, Source};
@@ -46,10 +48,11 @@ pub fn read_and_check<S: Source, K: Sink>(alloc: Global, source: &mut S, sink: &
     }
 }
 
-/// Reads the source to its end, as a plan and a trace.
+/// Reads the source to its end, as a plan and a trace. The plan could be run.
 fn read_traced<S: Source>(alloc: Global, source: &mut S) -> Result<Traced, Unread>
     ensures ok { IfOk result (λ traced. IsGivenTrace (S.left source.old) (S.left source.new) traced.plan (drop traced.plan_len traced.bytes.items)) }
     ensures room { IfOk result (λ traced. traced.plan_len ≤ length traced.bytes.items) }
+    ensures runnable { IfOk result (λ traced. IsRunnable traced.plan) }
     ensures refused { (fault : PlanFault) → result ≡ Err (Unread.Refused fault) → IsPartRefused (S.left source.old) (S.left source.new) fault }
     ensures read { result ≡ Err Unread.ReadFault → Rose (S.faults source.old) (S.faults source.new) }
 {
@@ -57,11 +60,14 @@ fn read_traced<S: Source>(alloc: Global, source: &mut S) -> Result<Traced, Unrea
     let plan_len = plan_len(&bytes);
     let (part, _trace) = bytes.split_at(plan_len);
     match read_plan(alloc, part) {
-        Ok(plan) => Ok(Traced {
-            plan,
-            bytes,
-            plan_len,
-        }),
+        Ok(plan) => {
+            every_spelled_plan_runs();
+            Ok(Traced {
+                plan,
+                bytes,
+                plan_len,
+            })
+        }
         Err(PlanStop::Refused(fault)) => Err(Unread::Refused(fault)),
         Err(PlanStop::NoMemory) => Err(Unread::NoMemory),
     }
@@ -70,6 +76,7 @@ fn read_traced<S: Source>(alloc: Global, source: &mut S) -> Result<Traced, Unrea
 /// Checks a trace, and writes what is said of it.
 fn check_traced<K: Sink>(alloc: Global, traced: &Traced, sink: &mut K) -> u8
     requires room { traced.now.plan_len ≤ length traced.now.bytes.items }
+    requires runnable { IsRunnable traced.now.plan }
     ensures few { (result ≡ 0) ⊎ (result ≡ 5) ⊎ (result ≡ 6) ⊎ (result ≡ 11) ⊎ (result ≡ 12) }
     ensures told { (result ≡ 0) ⊎ (result ≡ 11) ⊎ (result ≡ 12)
         → IsToldOf traced.now.plan (drop traced.now.plan_len traced.now.bytes.items) result (K.taken sink.old) (K.taken sink.new) }
