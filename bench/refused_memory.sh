@@ -69,6 +69,7 @@ for do in refuse_each limit; do
     $do plans/apart.plan live
     $do plans/write_and_read.plan record
     $do plans/write_and_read.image replay 100000
+    $do plans/check_yes.given check
 done
 echo "$wrong ended otherwise"
 [ "$wrong" -eq 0 ]

@@ -1,8 +1,8 @@
 -- What a fault, a refusal and the want of a plan give.
 use Rattle.std.proofs.Common.{◌≡◌, ◌≢◌, ◌∙◌, sym, subst, ◌≤◌, ◌⊎◌, ℕ, List, [], Option, Some, Global, length, refl, inl, inr}
 use Rattle.std.specs.Prelude.{String}
-use Rattle.std.specs.Io.KnownBytes.{Appends, Consumes, IsAtEnd}
-use Rattle.afr_text.specs.Parts.{AppendsFront, CameMore}
+use Rattle.std.specs.Io.KnownBytes.{Appends}
+use Rattle.afr_text.specs.Parts.{AppendsFront}
 use Rattle.afr_plan.specs.declared.plan.Plan.{Plan}
 use Rattle.afr_plan.specs.declared.plan.PlanFault.{PlanFault}
 use Rattle.afr_plan.specs.Judging.{first_fault}
@@ -12,11 +12,12 @@ use Rattle.afr_volume.proofs.ChosenLemmas.{no_volume_chosen}
 use Rattle.afr_volume.specs.State.{IsChosen, State, no_volume}
 use Rattle.afr_model.specs.Ordered.{IsOrdered, Writes}
 use Rattle.afr_model.specs.Complete.{IsComplete}
-use Rattle.afr_words.specs.Forms.{AreForm, AskFor}
+use Rattle.afr_words.specs.Forms.{AreForm, AskCheck, AskFor}
 use Rattle.afr_words.specs.declared.form.Form.{Form}
 use Rattle.afr_words.specs.declared.form.Form.TheVariants as kind
 use Rattle.afr_gen.specs.Generated.{generated}
 use Rattle.afr_cli.specs.Forms.{text_of}
+use Rattle.afr_cli.specs.Reading.{WasRead}
 use Rattle.afr_cli.specs.Statuses.{IsOver, AreReading, IsPlanOf, IsPlanned, IsText, IsRefused, IsRefusal, IsSpelled, Reports, StopsWriting, refusal_line, usage_line}
 
 -- before a plan was handed in nothing was written, in any order
@@ -32,8 +33,8 @@ pub other_status : (r s n : ℕ) (A : Type 0) → (r ≢ 5 → (r ≡ s) × A) �
 other_status r s n A whole not_5 not_s e = not_s (sym e ∙ (whole (λ five. not_5 (sym e ∙ five))).0)
 
 module _ {S : Type 0} (words : List (String Global)) (left : S → Option (List ℕ)) (source source' : S) (taken taken' : Option (List ℕ)) (now : State) where
-  pub stops_at_usage : (AreForm words → ⊥) → source' ≡ source → now ≡ no_volume → AppendsFront taken taken' usage_line → StopsWriting words left source source' taken taken' now
-  stops_at_usage other same none front = record { text = usage_line; known = IsText.Usage other same none; front = front }
+  pub stops_at_usage : (AreForm words → ⊥) → (AskCheck words → ⊥) → source' ≡ source → now ≡ no_volume → AppendsFront taken taken' usage_line → StopsWriting words left source source' taken taken' now
+  stops_at_usage other unchecked same none front = record { text = usage_line; known = IsText.Usage other unchecked same none; front = front }
 
   pub stops_at_refusal : (fault : PlanFault) → AreReading words → IsRefused (left source) (left source') fault → now ≡ no_volume
       → AppendsFront taken taken' (refusal_line fault) → StopsWriting words left source source' taken taken' now
@@ -59,20 +60,11 @@ planned_or_none words form left left' now asked (inl none) = inl none
 planned_or_none words form left left' now asked (inr planned) = inr (record { form = form; asked = asked; planned = planned })
 
 module _ (left left' : Option (List ℕ)) (fault : PlanFault) where
-  pub is_faulty : (bytes seen : List ℕ) → seen ≡ bytes → Consumes left left' bytes → IsAtEnd left' → length bytes ≤ 16777216
-      → (first_fault seen ≡ Some fault) × ((plan : Plan) → Spells seen plan → ⊥) → IsRefused left left' fault
-  is_faulty bytes seen e came end few why = inl (record { bytes = bytes; read = record { came = came; end = end; few = few }; first = rw (← e) why.0; none = rw (← e) why.1 })
-
-  pub is_long : CameMore left left' 16777216 → fault ≡ record { line = 0; code = 0 } → IsRefused left left' fault
-  is_long more why = inr (why, more)
+  pub is_faulty : (bytes seen : List ℕ) → seen ≡ bytes → WasRead 16777216 left left' bytes → (first_fault seen ≡ Some fault) × ((plan : Plan) → Spells seen plan → ⊥) → IsRefused left left' fault
+  is_faulty bytes seen e read why = inl (record { bytes = bytes; read = read; first = rw (← e) why.0; none = rw (← e) why.1 })
 
   pub refused : (taken taken' : Option (List ℕ)) → IsRefused left left' fault → Appends taken taken' (refusal_line fault) → IsRefusal left left' taken taken'
   refused taken taken' cause line = record { fault = fault; cause = cause; line = line }
-
-module _ (left left' : Option (List ℕ)) (bytes seen : List ℕ) (plan : Plan) where
-  -- what was read to its end spells the plan
-  pub is_spelled : seen ≡ bytes → Consumes left left' bytes → IsAtEnd left' → length bytes ≤ 16777216 → Spells seen plan → IsSpelled left left' plan
-  is_spelled e came end few spells = record { bytes = bytes; read = record { came = came; end = end; few = few }; spells = rw (← e) spells }
 
 module _ (left left' : Option (List ℕ)) (plan : Plan) (spelled : IsSpelled left left' plan) where
   -- the plan that was spelled is the one that was run

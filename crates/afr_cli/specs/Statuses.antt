@@ -15,16 +15,17 @@ use Rattle.afr_volume.specs.State.{State, no_volume}
 use Rattle.afr_gen.specs.Generated.{generated}
 use Rattle.afr_model.specs.Actors.{IsActor, is_done}
 use Rattle.afr_model.specs.Complete.{IsComplete}
-use Rattle.afr_words.specs.Forms.{AreForm, AskFor}
+use Rattle.afr_words.specs.Forms.{AreForm, AskCheck, AskFor}
 use Rattle.afr_words.specs.declared.form.Form.{Form}
 use Rattle.afr_words.specs.declared.form.Form.TheVariants as kind
+use Rattle.afr_cli.specs.Checking.{IsGivenTrace, IsPartRefused, IsSaidOf}
 use Rattle.afr_cli.specs.Forms.{reads, text_of}
 use Rattle.afr_cli.specs.Reading.{WasRead}
 use Rattle.afr_cli.specs.Replay.{Differs, IsImagePlan, IsImageRefused, difference_line, image_refusal_line}
 
 -- the line that tells how the program is called
 abbrev pub usage_line : List ℕ
-usage_line = codes "usage: afr run | trace | info | gen N | live | crawl | record | replay T\n"
+usage_line = codes "usage: afr run | trace | info | gen N | live | crawl | record | replay T | check\n"
 
 -- the name of a refused plan's code
 abbrev pub name_of : ℕ → List ℕ
@@ -115,10 +116,10 @@ pub record IsRefusal (left left' taken taken' : Option (List ℕ)) : Type 0 wher
   pub cause : IsRefused left left' fault
   pub line : Appends taken taken' (refusal_line fault)
 
--- a text of the program, and why it was to be written: the usage, a refusal, the form's text of a run that is over, or where a
--- replay differs from its image
+-- a text of the program, and why it was to be written: the usage, a refusal, the form's text of a run that is over, where a
+-- replay differs from its image, or what is said of a trace
 pub data IsText {S : Type 0} (words : List (String Global)) (left : S → Option (List ℕ)) (source source' : S) (now : State) : List ℕ → Type 0 where
-  Usage : (AreForm words → ⊥) → source' ≡ source → now ≡ no_volume
+  Usage : (AreForm words → ⊥) → (AskCheck words → ⊥) → source' ≡ source → now ≡ no_volume
       → IsText words left source source' now usage_line
   Refusal : AreReading words → (fault : PlanFault) → IsRefused (left source) (left source') fault → now ≡ no_volume
       → IsText words left source source' now (refusal_line fault)
@@ -128,6 +129,10 @@ pub data IsText {S : Type 0} (words : List (String Global)) (left : S → Option
       → IsText words left source source' now (image_refusal_line fault)
   Difference : (turns : ℕ) → AskFor words (kind.Replay turns) → (line : ℕ) → Differs turns (left source) (left source') now line
       → IsText words left source source' now (difference_line line)
+  PartRefusal : AskCheck words → (fault : PlanFault) → IsPartRefused (left source) (left source') fault → now ≡ no_volume
+      → IsText words left source source' now (refusal_line fault)
+  Checked : AskCheck words → (plan : Plan) (trace : List ℕ) → IsGivenTrace (left source) (left source') plan trace
+      → (status : ℕ) (text : List ℕ) → IsSaidOf plan trace status text → now ≡ no_volume → IsText words left source source' now text
 
 -- the sink took a front of the text that was to be written
 pub record StopsWriting {S : Type 0} (words : List (String Global)) (left : S → Option (List ℕ)) (source source' : S) (taken taken' : Option (List ℕ)) (now : State) : Type 0 where

@@ -1,12 +1,15 @@
 //! The program without its outside: words, a source and a sink come in, a status goes out.
 #![tactic(auto)]
 
+mod checking;
 mod crawling;
 mod finished;
+mod found;
 mod generated;
 mod imaged;
 mod live;
 mod messages;
+mod parts;
 mod program;
 mod reading;
 mod recording;

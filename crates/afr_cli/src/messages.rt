@@ -16,9 +16,13 @@ use std::alloc::Global;
 /// The line that tells how the program is called.
 pub const USAGE: &[u8] =
     b"usage: afr run | trace | info | gen N | live | crawl | record | replay T\n";
+pub const USAGE: &[u8] = b"usage: afr run | trace | info | gen N | live | crawl | record | replay T | check\n";
 
 /// The line that refuses a plan that can't be crawled.
 pub const CRAWL_REFUSED: &[u8] = b"crawl refused: healers\n";
+
+/// The line that tells that a check is past its limit.
+pub const PAST_LIMIT: &[u8] = b"check limit\n";
 
 /// Writes a text, and answers the status, or 5 where the sink failed.
 pub fn answer<K: Sink>(sink: &mut K, text: &[u8], status: u8) -> u8

@@ -1,8 +1,10 @@
 //! Reading a plan from a source.
 ghost use Rattle.std.specs.Prelude.{◌≡◌, Err, IfOk};
 ghost use Rattle.afr_text.specs.Causes.{Rose};
+ghost use Rattle.afr_text.specs.Parts.{CameMore};
 ghost use Rattle.afr_plan.specs.declared.plan.PlanFault.{PlanFault};
 ghost use Rattle.afr_law_runnable.specs.Runnable.{IsRunnable};
+ghost use Rattle.afr_cli.specs.Reading.{WasRead};
 ghost use Rattle.afr_cli.specs.Statuses.{IsRefused, IsSpelled};
 
 use afr_law_runnable::every_spelled_plan_runs;
@@ -25,6 +27,20 @@ pub enum Unread {
     NoMemory,
 }
 
+/// Reads the source to its end.
+pub fn read_whole<S: Source>(alloc: Global, source: &mut S) -> Result<Vec<u8>, Unread>
+    ensures ok { IfOk result (λ bytes. WasRead 16777216 (S.left source.old) (S.left source.new) bytes.items) }
+    ensures long { (fault : PlanFault) → result ≡ Err (Unread.Refused fault) → (fault ≡ record { line = 0; code = 0 }) × CameMore (S.left source.old) (S.left source.new) 16777216 }
+    ensures read { result ≡ Err Unread.ReadFault → Rose (S.faults source.old) (S.faults source.new) }
+{
+    match read_all(alloc, source, LIMIT) {
+        Ok(bytes) => Ok(bytes),
+        Err(ReadStop::ReadFault) => Err(Unread::ReadFault),
+        Err(ReadStop::TooLong) => Err(Unread::Refused(TOO_LONG)),
+        Err(ReadStop::NoMemory) => Err(Unread::NoMemory),
+    }
+}
+
 /// Reads the source to its end, as a plan. Every plan that is spelled can be run.
 pub fn read_runnable<S: Source>(alloc: Global, source: &mut S) -> Result<Plan, Unread>
     ensures ok { IfOk result (λ plan. IsSpelled (S.left source.old) (S.left source.new) plan) }
@@ -32,12 +48,7 @@ pub fn read_runnable<S: Source>(alloc: Global, source: &mut S) -> Result<Plan, U
     ensures refused { (fault : PlanFault) → result ≡ Err (Unread.Refused fault) → IsRefused (S.left source.old) (S.left source.new) fault }
     ensures read { result ≡ Err Unread.ReadFault → Rose (S.faults source.old) (S.faults source.new) }
 {
-    let bytes = match read_all(alloc, source, LIMIT) {
-        Ok(bytes) => bytes,
-        Err(ReadStop::ReadFault) => return Err(Unread::ReadFault),
-        Err(ReadStop::TooLong) => return Err(Unread::Refused(TOO_LONG)),
-        Err(ReadStop::NoMemory) => return Err(Unread::NoMemory),
-    };
+    let bytes = read_whole(alloc, source)?;
     match read_plan(alloc, &bytes) {
         Ok(plan) => {
             every_spelled_plan_runs();

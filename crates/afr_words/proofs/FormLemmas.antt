@@ -14,7 +14,7 @@ use Rattle.clap.specs.declared.error.kind.ErrorKind.TheVariants as error
 use Rattle.clap.specs.declared.parser.matches.ArgMatches.{ArgMatches}
 use Rattle.clap.specs.declared.parser.matches.ArgMatches.TheViews.{out-ArgMatches, out-SubCommand}
 use Rattle.clap.specs.declared.parser.matches.SubCommand.{SubCommand}
-use Rattle.afr_words.specs.Forms.{AreForm, AreRefused, AreWordsOf, AskFor, IsDashed}
+use Rattle.afr_words.specs.Forms.{AreForm, AreRefused, AreWordsOf, AskCheck, AskFor, IsDashed}
 use Rattle.afr_words.specs.Reading.{whole_program}
 use Rattle.afr_words.specs.declared.form.Form.{Form}
 use Rattle.afr_words.specs.declared.form.Form.TheVariants as kind
@@ -57,15 +57,20 @@ undashed [] above (k, x, lt, at, d) = omega arith
 undashed (w ∷ words) above (zero, x, lt, at, d) = let is : IsDashed w = rw at d in omega (arith, above.0, dashed_letter _ is)
 undashed (w ∷ words) above (suc k, x, lt, at, d) = undashed words above.1 (k, x, omega arith, at, d)
 
+-- plain words aren't refused at sight
+refused_is_not_plain : (words : List (String Global)) → AreRefused words → ArePlain (map string_bytes words) → ⊥
+refused_is_not_plain words (inr (inr dashed)) plain = undashed words plain.above dashed
+refused_is_not_plain [] refused plain = plain.some refl
+refused_is_not_plain (w ∷ words) (inl none) plain = cc
+refused_is_not_plain (w ∷ words) (inr (inl help)) plain = plain.first help
+
 -- words that are refused at sight ask for no form
 pub refused_is_no_form : (words : List (String Global)) → AreRefused words → AreForm words → ⊥
-refused_is_no_form words refused (form, asked) = go words refused (form_is_plain form (map string_bytes words) asked)
-  where
-    go : (words : List (String Global)) → AreRefused words → ArePlain (map string_bytes words) → ⊥
-    go words (inr (inr dashed)) plain = undashed words plain.above dashed
-    go [] refused plain = plain.some refl
-    go (w ∷ words) (inl none) plain = cc
-    go (w ∷ words) (inr (inl help)) plain = plain.first help
+refused_is_no_form words refused (form, asked) = refused_is_not_plain words refused (form_is_plain form (map string_bytes words) asked)
+
+-- and not for a check
+pub refused_is_no_check : (words : List (String Global)) → AreRefused words → AskCheck words → ⊥
+refused_is_no_check words refused check = refused_is_not_plain words refused (rw check (plain_from_letter (codes "check") [] (omega arith) (λ e. omega (arith, e)) tt))
 
 -- an error that isn't for want of memory says that the words ask for no form, where they ask for none with a number
 pub failed_is_no_form : (app : App) (words : List (String Global)) (why : ErrorKind) → app ≡ whole_program

@@ -1,4 +1,5 @@
 -- Lemmas of this crate.
+pub mod CheckLemmas
 pub mod FormLemmas
 pub mod NumberLemmas
 pub mod OneWordLemmas

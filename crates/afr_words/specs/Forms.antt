@@ -49,3 +49,8 @@ AskLive words form = map string_bytes words ≡ live_word form ∷ []
 -- the words ask for a run by threads or a crawl
 abbrev pub AreLive : List (String Global) → Type 0
 AreLive words = (form : LiveForm) × AskLive words form
+
+-- ---- a check of a given trace, of which no form above is one
+-- the words ask for it
+abbrev pub AskCheck : List (String Global) → Type 0
+AskCheck words = map string_bytes words ≡ codes "check" ∷ []

@@ -3,6 +3,8 @@ use Rattle.std.proofs.Common.{ap, sym, refl, ◌∙◌, inl, inr, arith}
 use Rattle.afr_volume.proofs.PlainLemmas.{plain_right}
 use Rattle.afr_volume.specs.State.{State}
 use Rattle.afr_words.specs.declared.form.Form.TheVariants as kind
+use Rattle.afr_words.proofs.FormLemmas.{refused_is_no_check, untold}
+use Rattle.afr_cli.proofs.CheckLemmas.{answers, refuses_part}
 use Rattle.afr_cli.proofs.FormLemmas.{is_load, no_replay, plan_is_spelled, reading_is_not, reads_too, replay_is, replay_or_not}
 use Rattle.afr_cli.proofs.ReplayLemmas.{no_status, not_ended, refuses_image, replays}
 use Rattle.afr_cli.proofs.StatusLemmas.{nothing_ordered, other_status, planned_or_none, reports, stops_at_usage}
@@ -15,10 +17,10 @@ serve-status-requires-clause-asked g c = (c.args.words.now, c.in-Ok-Some.ensures
 
 pub returns-clause-ok : goal.returns-clause-ok
 returns-clause-ok g c = elim c.match-form_of.branch [
-  | in-Ok-Some w ↦ λ e. let ran = w.serve-status.ensures.ok (sym w.status-is ∙ e) in
+  | in-Ok-Some w ↦ λ e other. let ran = w.serve-status.ensures.ok (sym w.status-is ∙ e) in
       rw (w.source-is, w.sink-is, w.volume-is) (reports _ _ _ _ _ _ _ (w.in-Ok-Some.ensures.some w.in-Ok-Some.form cc) ran.0 ran.1, ran.2, ran.3)
-  | in-Ok-None w ↦ λ e. absurd (other_status _ _ 0 _ w.answer-status.ensures.whole (λ h. cc) (λ h. cc) (sym w.status-is ∙ e))
-  | in-Err w ↦ λ e. absurd (omega (arith, w.status-is, e))
+  | in-Ok-None w ↦ λ e other. absurd (other_status _ _ 0 _ w.answer-status.ensures.whole (λ h. cc) (λ h. cc) (sym w.status-is ∙ e))
+  | in-Err w ↦ λ e other. absurd (omega (arith, w.status-is, e))
 ]
 
 pub returns-clause-unfinished : goal.returns-clause-unfinished
@@ -41,7 +43,7 @@ returns-clause-write g c = elim c.match-form_of.branch [
   | in-Ok-Some w ↦ λ e. let cut = w.serve-status.ensures.write (sym w.status-is ∙ e) in
       rw (w.source-is, w.sink-is, w.volume-is) (cut.0, cut.1 c.args.words.now (w.in-Ok-Some.ensures.some w.in-Ok-Some.form cc))
   | in-Ok-None w ↦ λ e. let cut = w.answer-status.ensures.fault (sym w.status-is ∙ e) in
-      rw w.sink-is (cut.0, stops_at_usage c.args.words.now _ _ _ _ _ _ (w.in-Ok-None.ensures.none cc) w.source-is (w.volume-is ∙ c.requires.fresh) cut.1)
+      rw w.sink-is (cut.0, stops_at_usage c.args.words.now _ _ _ _ _ _ (w.in-Ok-None.ensures.none cc) (untold _ c.is_check.ensures.1 c.if-is_check.false) w.source-is (w.volume-is ∙ c.requires.fresh) cut.1)
   | in-Err w ↦ λ e. absurd (omega (arith, w.status-is, e))
 ]
 
@@ -148,4 +150,17 @@ returns-clause-plain g c = elim c.match-form_of.branch [
 ]
 
 pub returns-clause-right : goal.returns-clause-right
-returns-clause-right g c = plain_right c.match-form_of.volume (returns-clause-plain g c) c.every_line.ensures.right
+returns-clause-right g c = plain_right c.match-form_of.volume (returns-clause-plain g c) c.every_line-2.ensures.right
+
+-- ---- the words ask for a check
+pub returns-then-is_check-clause-faulty_part : goal.returns-then-is_check-clause-faulty_part
+returns-then-is_check-clause-faulty_part g c = λ bytes fault given wrong. let r = c.read_and_check-status.ensures in
+    refuses_part bytes _ _ _ _ _ given.told r.checked (λ four. given.sound (r.read four).0) r.refused fault wrong r.few
+
+pub returns-then-is_check-clause-traced : goal.returns-then-is_check-clause-traced
+returns-then-is_check-clause-traced g c = λ bytes plan trace given few h. let r = c.read_and_check-status.ensures in
+    answers bytes _ _ _ _ _ given.told r.checked (λ four. given.sound (r.read four).0) r.refused plan trace few h r.few
+
+pub returns-then-is_check-clause-others : goal.returns-then-is_check-clause-others
+returns-then-is_check-clause-others g c = let check = c.is_check.ensures.0 c.if-is_check.true in
+    (λ no_form unchecked. absurd (unchecked check), λ refused. absurd (refused_is_no_check c.args.words.now refused check))
