@@ -227,6 +227,23 @@ apart-remove n g (e ∷ places) apart = step (is_at (gfid_cmp g) e.0) (apart-rem
     step true more = apart.2
     step false more = (apart.0, lacks-remove e.1 g places apart.1, more)
 
+-- nothing leads any more to the place that was given up
+lacks_removed : (g : Gfid) (n p : ℕ) (places : List (Gfid × ℕ)) → AreApart n places → Some p ≡ placed g places → Lacks p (remove_entry (is_at (gfid_cmp g)) places)
+lacks_removed g n p [] apart there = tt
+lacks_removed g n p (e ∷ places) apart there = step (is_at (gfid_cmp g) e.0) there (λ there. lacks_removed g n p places apart.2 there)
+  where
+    step : (b : Bool) → Some p ≡ cond b (Some e.1) (placed g places) → (Some p ≡ placed g places → Lacks p (remove_entry (is_at (gfid_cmp g)) places)) → Lacks p (cond b places (e ∷ remove_entry (is_at (gfid_cmp g)) places))
+    step true there more = let same : p ≡ e.1 = same_Some _ _ there in rw same apart.1
+    step false there more = (λ same. other_place g e.1 p places apart.1 there same, more there)
+
+-- An object goes, and its place is emptied.
+pub table_dropped : (g : Gfid) (w : Object) (objects : List Object) (places : List (Gfid × ℕ)) (p : ℕ) → AreApart (length objects) places → Some p ≡ placed g places
+    → table (set objects p w) (remove_entry (is_at (gfid_cmp g)) places) ≡ remove_entry (is_at (gfid_cmp g)) (table objects places)
+table_dropped g w objects places p apart there = table-lacking p w objects (remove_entry (is_at (gfid_cmp g)) places) (lacks_removed g (length objects) p places apart there) ∙ table-remove g objects places
+
+pub apart_dropped : (g : Gfid) (w : Object) (objects : List Object) (places : List (Gfid × ℕ)) (p : ℕ) → AreApart (length objects) places → AreApart (length (set objects p w)) (remove_entry (is_at (gfid_cmp g)) places)
+apart_dropped g w objects places p apart = subst (λ n. AreApart n (remove_entry (is_at (gfid_cmp g)) places)) (sym (length-set objects p w)) (apart-remove (length objects) g places apart)
+
 -- With nothing remembered, what is remembered is right.
 pub none_found : (places : List (Gfid × ℕ)) → AreFound [] places
 none_found places i p at = absurd (none-some _ at)

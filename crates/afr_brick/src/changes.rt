@@ -7,7 +7,7 @@ ghost use Rattle.afr_object.specs.State.{CanApply, takes_memory};
 ghost use Rattle.afr_object.specs.Tables.{applied, changed, copy_at, gfid_cmp, linked, name_cmp, new_object, object_of, with_attr, with_bytes, with_names};
 
 use crate::object::Object;
-use crate::places::{place_of, remember};
+use crate::places::{give_up, place_of, remember};
 use crate::refused::Refused;
 use crate::store::Store;
 use afr_base::{Gfid, KeyId, NameId, NoMemory, ValueId, What};
@@ -151,7 +151,7 @@ impl Store {
     pub(crate) fn drop_object(&mut self, gfid: Gfid)
         ensures { self.new ≡ record self.old { objects = remove_entry (is_at (gfid_cmp gfid)) self.old.objects } }
     {
-        self.places.remove(&gfid);
+        give_up(self.alloc, &mut self.objects, &mut self.places, gfid);
         self.opening.clear();
     }
 

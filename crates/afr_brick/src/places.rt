@@ -1,13 +1,15 @@
 //! Where an object stands among those of a brick.
-ghost use Rattle.std.specs.Prelude.{◌≡◌, ◌+◌, ◌^◌, ℕ, MatchOption, None, Some, slice_get};
+ghost use Rattle.std.specs.Prelude.{◌≡◌, ◌+◌, ◌<◌, ◌^◌, ℕ, MatchOption, None, Some, length, slice_get, slice_set};
 ghost use Rattle.std.specs.BTreeMap.{is_at};
 ghost use Rattle.std.specs.List.Sorted.{IsStrictlySortedBy};
-ghost use Rattle.std.specs.Map.{keys_of, lookup};
-ghost use Rattle.afr_brick.specs.Placed.{IsPlaceOf, IsPlaced, Remembers, table};
-ghost use Rattle.afr_object.specs.Tables.{copy_at, gfid_cmp};
+ghost use Rattle.std.specs.Map.{keys_of, lookup, remove_entry};
+ghost use Rattle.afr_brick.specs.Placed.{AreApart, IsPlaceOf, IsPlaced, Remembers, table};
+ghost use Rattle.afr_base.specs.declared.ids.What.TheVariants.{File};
+ghost use Rattle.afr_object.specs.Tables.{copy_at, gfid_cmp, new_object};
 
 use crate::object::Object;
-use afr_base::{Gfid, OPENING_GFIDS};
+use afr_base::{Gfid, OPENING_GFIDS, What};
+use std::alloc::Global;
 use std::collections::BTreeMap;
 
 /// The gfid of the first opening file.
@@ -71,4 +73,28 @@ pub(crate) fn remember(opening: &mut Vec<usize>, g: Gfid, place: usize)
             Err(_) => {}
         }
     }
+}
+
+/// The object goes, and its place is left empty: what it held is given up.
+pub(crate) fn give_up(
+    alloc: Global,
+    objects: &mut Vec<Object>,
+    places: &mut BTreeMap<Gfid, usize>,
+    g: Gfid,
+)
+    requires { AreApart (length objects.old.items) places.old.entries }
+    ensures table { table objects.new.items places.new.entries ≡ remove_entry (is_at (gfid_cmp g)) (table objects.old.items places.old.entries) }
+    ensures apart { AreApart (length objects.new.items) places.new.entries }
+{
+    match places.remove(&g) {
+        Some(place) => empty(alloc, objects, place),
+        None => {}
+    }
+}
+
+fn empty(alloc: Global, objects: &mut Vec<Object>, place: usize)
+    requires { place < length objects.old.items }
+    ensures { objects.new.items ≡ slice_set objects.old.items place (new_object File) }
+{
+    objects[place] = Object::new(alloc, What::File);
 }
