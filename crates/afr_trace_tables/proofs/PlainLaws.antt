@@ -36,10 +36,10 @@ names_same None = refl
 names_same (Some o) = refl
 
 -- one past has the tables of another without numbers
-abbrev IsBare : Past → Past → Type 0
+abbrev pub IsBare : Past → Past → Type 0
 IsBare plain past = (k b : ℕ) → plain k b ≡ bare (past k b)
 
-bytes_plain : (plain past : Past) → IsBare plain past → (k : ℕ) (o : Option Line) → bytes_shown plain k o ≡ bytes_shown past k o
+pub bytes_plain : (plain past : Past) → IsBare plain past → (k : ℕ) (o : Option Line) → bytes_shown plain k o ≡ bytes_shown past k o
 bytes_plain plain past h k (Some (Ask a b (request.ReadBytes g at len) told took)) =
     ap (λ (t : Table). take len (drop at (content_in (copy_at g t)))) (h k b.0) ∙ ap (λ (c : List ℕ). take len (drop at c)) (ap content_in (copy_bare g (past k b.0)) ∙ content_same (copy_at g (past k b.0)))
 bytes_plain plain past h k other = refl
@@ -48,7 +48,7 @@ attrs_plain : (plain past : Past) → IsBare plain past → (k : ℕ) (o : Optio
 attrs_plain plain past h k (Some (Ask a b (request.ReadAttrs g) told took)) = ap (λ (t : Table). attrs_in (copy_at g t)) (h k b.0) ∙ ap attrs_in (copy_bare g (past k b.0)) ∙ attrs_same (copy_at g (past k b.0))
 attrs_plain plain past h k other = refl
 
-names_plain : (plain past : Past) → IsBare plain past → (k : ℕ) (o : Option Line) → names_shown plain k o ≡ names_shown past k o
+pub names_plain : (plain past : Past) → IsBare plain past → (k : ℕ) (o : Option Line) → names_shown plain k o ≡ names_shown past k o
 names_plain plain past h k (Some (Ask a b (request.List g) told took)) = ap (λ (t : Table). names_in (copy_at g t)) (h k b.0) ∙ ap names_in (copy_bare g (past k b.0)) ∙ names_same (copy_at g (past k b.0))
 names_plain plain past h k other = refl
 

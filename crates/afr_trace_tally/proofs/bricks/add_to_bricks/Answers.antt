@@ -1,0 +1,32 @@
+use Rattle.std.proofs.Common.{◌∙◌, ◌+◌, ◌∷◌, length, length-set, refl, reverse, arith}
+use Rattle.std.proofs.lemmas.Option.{slice_get_read}
+use Rattle.afr_trace_tally.specs.Bricks.{IsBrickTally}
+use Rattle.afr_trace_tally.proofs.PlaceLemmas.{all_done, none_done, one_done}
+use Rattle.afr_trace_tally.proofs.bricks.add_to_bricks.Goals as goal
+
+pub loop-b-init : goal.loop-b-init
+loop-b-init c = record {
+  five = c.requires.was.five;
+  between = none_done (IsBrickTally c.args.plan.now (c.args.line.now ∷ reverse c.args.older.now)) (IsBrickTally c.args.plan.now (reverse c.args.older.now)) c.args.bricks.now.items c.requires.was.each;
+}
+
+pub add_to_brick-requires-clause-was : goal.add_to_brick-requires-clause-was
+add_to_brick-requires-clause-was c =
+    c.loop-b.invariant.between.left c.loop-b.b c.index_mut.result.now (omega arith)
+    (slice_get_read c.loop-b.bricks.items (length c.loop-b.bricks.items) c.loop-b.b c.index_mut.result.now refl (omega (arith, c.loop-b.bricks.ok.0, c.args.bricks.now.ok.0)) c.index_mut.ensures.value)
+
+pub loop-b-preserved : goal.loop-b-preserved
+loop-b-preserved c = record {
+  five = length-set c.loop-b.bricks.items c.loop-b.b c.add_to_brick.new.t ∙ c.loop-b.invariant.five;
+  between =
+      one_done (IsBrickTally c.args.plan.now (c.args.line.now ∷ reverse c.args.older.now)) (IsBrickTally c.args.plan.now (reverse c.args.older.now)) c.loop-b.b (c.loop-b.b + 1) c.loop-b.bricks.items _ c.add_to_brick.new.t refl
+      (omega (arith, c.loop-b.bricks.ok.0, c.args.bricks.now.ok.0)) refl c.in_ok-add_to_brick.ensures.ok c.loop-b.invariant.between;
+}
+
+pub returns-clause-ok : goal.returns-clause-ok
+returns-clause-ok c = record {
+  five = c.loop-b.invariant.five;
+  each =
+      all_done (IsBrickTally c.args.plan.now (c.args.line.now ∷ reverse c.args.older.now)) (IsBrickTally c.args.plan.now (reverse c.args.older.now)) c.loop-b.b c.loop-b.bricks.items
+      (omega (arith, c.loop-b.bricks.ok.0, c.args.bricks.now.ok.0)) c.loop-b.invariant.between;
+}

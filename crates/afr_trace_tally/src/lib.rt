@@ -1,0 +1,20 @@
+//! What the lines of a log have made of bricks and actors, kept up to date one line more at a time: tables, sums, locks, sessions, works.
+#![tactic(auto)]
+
+mod actors;
+mod asked;
+mod bricks;
+mod contents;
+mod counts;
+mod entries;
+mod locks;
+mod sessions;
+mod stop;
+mod tables;
+mod tally;
+mod works;
+
+pub use stop::TallyStop;
+pub use tables::{change_at, change_of};
+pub use tally::{Tally, asks_known};
+pub use works::{is_end, is_of};
