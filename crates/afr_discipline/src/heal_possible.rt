@@ -1,14 +1,16 @@
 //! The copies that may still be the source of a heal after a request.
-ghost use Rattle.std.specs.Prelude.{◌≡◌, ◌<◌, ◌≤◌, true};
+ghost use Rattle.std.specs.Prelude.{◌≡◌, ℕ, ◌<◌, ◌≤◌, false, true};
 ghost use Rattle.afr_lines.specs.declared.request.Request.{Request};
 ghost use Rattle.afr_model_moves.specs.Keeps.{keeps_in};
+ghost use Rattle.afr_model_moves.specs.Steps.{may_heal};
 ghost use Rattle.afr_discipline.specs.Alike.{IsAlike};
 ghost use Rattle.afr_discipline.specs.Notes.{IsAllowed, possible_now, still_possible};
 ghost use Rattle.afr_discipline.specs.Stands.{seen_as};
 
-use crate::heal_asks::{is_allowed_by, may_heal};
+use crate::heal_asks::{gives_back, is_allowed_by, may_heal};
 use crate::of_five::picked;
 use crate::register::{Register, Step};
+use crate::steps::rank;
 use afr_base::{BrickId, BrickSet};
 use afr_lines::{Area, Domain, Request};
 
@@ -94,6 +96,26 @@ fn all_possible(register: &Register) -> BrickSet
     )
 }
 
+/// An unlock before any look, which no source allows.
+fn is_early(register: &Register, request: &Request) -> bool
+    ensures { result ≡ true → (n s b : ℕ) → may_heal n (keeps_in register.now.shape) (seen_as register.now) s b request.now ≡ false }
+{
+    gives_back(request) && rank(register.step) < 7
+}
+
+/// The copies that may still be the source of a heal that only unlocks.
+fn broken_possible(register: &Register, b: BrickId, request: &Request) -> BrickSet
+    requires few { register.now.shape.n ≤ 5 }
+    requires small { b.0 < 5 }
+    ensures { result ≡ still_possible register.now b.0 request.now }
+{
+    if is_early(register, request) {
+        BrickSet::none()
+    } else {
+        still_possible(register, b, request)
+    }
+}
+
 /// The copies that may still be the source after a request that one of them allows: all that might, where each allows it or
 /// none does, or where one is left.
 pub(crate) fn left_possible(register: &Register, b: BrickId, request: &Request) -> BrickSet
@@ -104,7 +126,7 @@ pub(crate) fn left_possible(register: &Register, b: BrickId, request: &Request) 
     ensures { result ≡ still_possible register.now b.0 request.now }
 {
     if register.broken {
-        return still_possible(register, b, request);
+        return broken_possible(register, b, request);
     }
     if is_alike(register, request) {
         return all_possible(register);
