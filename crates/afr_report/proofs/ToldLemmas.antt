@@ -94,3 +94,12 @@ started_asked n log at small e =
     let there = line_there log at small in
     quiet there.0 (started_bricks n (reverse (take at log))) (e ∙ ap unasked there.1)
     ∙ ap (λ (lines : List Line). started_bricks n lines) (sym (newest log at there.0 there.1))
+
+-- and after any line
+pub started_next : (n : ℕ) (log : List Line) (at : ℕ) (bricks after : List ℕ) → at < length log → bricks ≡ started_bricks n (reverse (take at log)) → (unasked (slice_get log at) ≡ None → after ≡ bricks)
+    → ((line : Line) → unasked (slice_get log at) ≡ Some line → after ≡ started_by line bricks) → after ≡ started_bricks n (reverse (take (at + 1) log))
+started_next n log at bricks after small was asked line = go (unasked (slice_get log at)) refl
+  where
+    go : (o : Option Line) → unasked (slice_get log at) ≡ o → after ≡ started_bricks n (reverse (take (at + 1) log))
+    go None e = asked e ∙ was ∙ started_asked n log at small (sym e)
+    go (Some l) e = line l e ∙ ap (λ (b : List ℕ). started_by l b) was ∙ started_shown n log at l (sym e)
