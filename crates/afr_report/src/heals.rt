@@ -11,11 +11,7 @@ use afr_report_words::{kind_word, push_gfid, push_heal_reply};
 
 /// Adds the line of a heal of this healer that found something to do; nothing for any other line
 /// of the log.
-pub fn push_told_heal(
-    out: &mut String,
-    healer: ActorId,
-    told: ToldLine<'_>,
-) -> Result<(), NoMemory>
+pub fn push_told_heal(out: &mut String, healer: ActorId, told: ToldLine<'_>) -> Result<(), NoMemory>
     ensures ok { OnOk result (string_bytes out.new ≡ string_bytes out.old ++ heal_of healer.0 (told_line told.entry)) }
 {
     match told {

@@ -45,11 +45,7 @@ fn note_at(lists: &mut Vec<List<u32>>, log: &Log, at: usize) -> Result<(), NoMem
 }
 
 /// Notes the position of a line, if there is one and it tells of an actor.
-fn note(
-    lists: &mut Vec<List<u32>>,
-    told: Option<ToldLine<'_>>,
-    at: usize,
-) -> Result<(), NoMemory>
+fn note(lists: &mut Vec<List<u32>>, told: Option<ToldLine<'_>>, at: usize) -> Result<(), NoMemory>
     ensures ok { OnOk result (lists.new.items ≡ placed (option_and_then subject_of (option_map told_line told.entry)) at lists.old.items) }
 {
     let Some(told) = told else {
