@@ -83,17 +83,12 @@ pub(crate) fn still_possible(register: &Register, b: BrickId, request: &Request)
     }
 }
 
-/// The copies that may be the source, one by one.
+/// The copies that may be the source.
 fn all_possible(register: &Register) -> BrickSet
     ensures { result ≡ possible_now register.now }
 {
-    picked(
-        register.possible.has(BrickId(0)),
-        register.possible.has(BrickId(1)),
-        register.possible.has(BrickId(2)),
-        register.possible.has(BrickId(3)),
-        register.possible.has(BrickId(4)),
-    )
+    register.possible.is_of_five();
+    register.possible
 }
 
 /// An unlock before any look, which no source allows.
