@@ -1,5 +1,6 @@
 -- What a call may answer where the brick has the object.
 use Rattle.std.proofs.Common.{◌≡◌, ◌≢◌, ◌↔◌, Option, Some, None, Result, Ok, Err, refl}
+use Rattle.std.specs.Prelude.{OnErr}
 use Rattle.std.specs.Result.{IsErrAnd}
 use Rattle.afr_brick.specs.declared.refused.Refused.{Refused}
 use Rattle.afr_brick.specs.declared.refused.Refused.TheVariants.{NoObject, NoMemory}
@@ -17,3 +18,8 @@ no_memory (Err e) h = λ k. absurd (cc)
 pub present : {X : Type 0} (o : Option X) → (o ≡ None → ⊥) → (x : X) × (o ≡ Some x)
 present None n = absurd (n refl)
 present (Some x) n = (x, refl)
+
+-- What holds whatever a call answers holds where it is refused.
+pub on_err : {A E : Type 0} {P : Type 0} (r : Result A E) → P → OnErr r P
+on_err (Ok x) h = tt
+on_err (Err e) h = h

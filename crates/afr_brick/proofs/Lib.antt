@@ -3,3 +3,4 @@ pub mod IndexKept
 pub mod IndexLemmas
 pub mod Made
 pub mod Mended
+pub mod PlacesLemmas

@@ -7,6 +7,7 @@ ghost use Rattle.afr_object.specs.State.{CanApply, takes_memory};
 ghost use Rattle.afr_object.specs.Tables.{applied, changed, copy_at, gfid_cmp, linked, name_cmp, new_object, object_of, with_attr, with_bytes, with_names};
 
 use crate::object::Object;
+use crate::places::{give_up, place_of, remember};
 use crate::refused::Refused;
 use crate::store::Store;
 use afr_base::{Gfid, KeyId, NameId, NoMemory, ValueId, What};
@@ -43,9 +44,10 @@ impl Store {
         ensures absent { (result ≡ Err Refused.NoObject) ↔ (copy_at g self.old.objects ≡ None) }
         ensures err { OnErr result (self.new ≡ self.old) }
     {
-        let Some(object) = self.objects.get_mut(&g) else {
+        let Some(place) = place_of(&self.objects, &self.places, &self.opening, g) else {
             return Err(Refused::NoObject);
         };
+        let object = &mut self.objects[place];
         object.write(self.keeps, at, bytes.as_slice())?;
         Ok(())
     }
@@ -57,9 +59,10 @@ impl Store {
         ensures never { result ≢ Err Refused.NoMemory }
         ensures err { OnErr result (self.new ≡ self.old) }
     {
-        let Some(object) = self.objects.get_mut(&g) else {
+        let Some(place) = place_of(&self.objects, &self.places, &self.opening, g) else {
             return Err(Refused::NoObject);
         };
+        let object = &mut self.objects[place];
         object.cut(self.keeps, len);
         Ok(())
     }
@@ -70,9 +73,10 @@ impl Store {
         ensures absent { (result ≡ Err Refused.NoObject) ↔ (copy_at g self.old.objects ≡ None) }
         ensures err { OnErr result (self.new ≡ self.old) }
     {
-        let Some(object) = self.objects.get_mut(&g) else {
+        let Some(place) = place_of(&self.objects, &self.places, &self.opening, g) else {
             return Err(Refused::NoObject);
         };
+        let object = &mut self.objects[place];
         object.set_attr(key, value)?;
         Ok(())
     }
@@ -84,9 +88,10 @@ impl Store {
         ensures never { result ≢ Err Refused.NoMemory }
         ensures err { OnErr result (self.new ≡ self.old) }
     {
-        let Some(object) = self.objects.get_mut(&dir) else {
+        let Some(place) = place_of(&self.objects, &self.places, &self.opening, dir) else {
             return Err(Refused::NoObject);
         };
+        let object = &mut self.objects[place];
         object.drop_name(name);
         Ok(())
     }
@@ -103,10 +108,10 @@ impl Store {
         ensures absent { (result ≡ Err Refused.NoObject) ↔ (copy_at dir self.old.objects ≡ None) }
         ensures err { OnErr result (self.new ≡ self.old) }
     {
-        if !self.objects.contains_key(&dir) {
+        if !self.has(dir) {
             return Err(Refused::NoObject);
         }
-        if self.objects.contains_key(&gfid) {
+        if self.has(gfid) {
             return self.add_name(dir, name, Entry { gfid, what });
         }
         self.make_new(dir, name, gfid, what)
@@ -132,17 +137,22 @@ impl Store {
     }
 
     pub(crate) fn add_object(&mut self, gfid: Gfid, what: What) -> Result<(), NoMemory>
+        requires { is_some (copy_at gfid self.old.objects) ≡ false }
         ensures ok { OnOk result (self.new ≡ record self.old { objects = insert_entry gfid_cmp self.old.objects gfid (new_object what) }) }
         ensures err { OnErr result (self.new ≡ self.old) }
     {
-        self.objects.insert(gfid, Object::new(self.alloc, what))?;
+        let place = self.objects.as_slice().len();
+        self.objects.push(Object::new(self.alloc, what))?;
+        self.places.insert(gfid, place)?;
+        remember(&mut self.opening, gfid, place);
         Ok(())
     }
 
     pub(crate) fn drop_object(&mut self, gfid: Gfid)
         ensures { self.new ≡ record self.old { objects = remove_entry (is_at (gfid_cmp gfid)) self.old.objects } }
     {
-        self.objects.remove(&gfid);
+        give_up(self.alloc, &mut self.objects, &mut self.places, gfid);
+        self.opening.clear();
     }
 
     #[tactic(auto, using(std::proofs::lemmas::Map::Steps::set_value_same))]
@@ -151,9 +161,10 @@ impl Store {
         ensures absent { (result ≡ Err Refused.NoObject) ↔ (copy_at dir self.old.objects ≡ None) }
         ensures err { OnErr result (self.new ≡ self.old) }
     {
-        let Some(object) = self.objects.get_mut(&dir) else {
+        let Some(place) = place_of(&self.objects, &self.places, &self.opening, dir) else {
             return Err(Refused::NoObject);
         };
+        let object = &mut self.objects[place];
         object.put_name(name, entry)?;
         Ok(())
     }

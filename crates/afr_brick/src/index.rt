@@ -13,7 +13,7 @@ use afr_index::Index;
 pub(crate) fn follow(index: &mut Option<Index>, store: &Store, g: Gfid)
     ensures { Follows g (copy_at g store.now.objects) index.old index.new }
 {
-    let Some(object) = store.objects.get(&g) else {
+    let Some(object) = store.get(g) else {
         return;
     };
     *index = relist(index.take(), g, object);

@@ -6,6 +6,7 @@ mod changes;
 mod index;
 mod numbers;
 mod object;
+mod places;
 mod reads;
 mod refused;
 mod repairs;

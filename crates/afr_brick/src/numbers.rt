@@ -8,6 +8,7 @@ ghost use Rattle.afr_object.specs.State.{CanPre, CanPost, CanSettle};
 ghost use Rattle.afr_object.specs.Tables.{changed, copy_at, gfid_cmp, with_numbers};
 
 use crate::object::Object;
+use crate::places::{place_of, stand_in_order};
 use crate::refused::Refused;
 use crate::store::Store;
 use afr_base::{BrickSet, Gfid, Kind, Marks};
@@ -31,9 +32,11 @@ impl Store {
         ensures order { IsStrictlySortedBy gfid_cmp (keys_of self.old.objects) }
         ensures index { IfOk result (λ stays. stays ≡ true → index_of self.new.objects ≡ index_of self.old.objects) }
     {
-        let Some(object) = self.objects.get_mut(&g) else {
+        stand_in_order(&self.objects, &self.places);
+        let Some(place) = place_of(&self.objects, &self.places, &self.opening, g) else {
             return Err(Refused::NoObject);
         };
+        let object = &mut self.objects[place];
         let was = object.is_clean();
         object.pre(kind);
         Ok(stays(was, object))
@@ -49,9 +52,11 @@ impl Store {
         ensures order { IsStrictlySortedBy gfid_cmp (keys_of self.old.objects) }
         ensures index { IfOk result (λ stays. stays ≡ true → index_of self.new.objects ≡ index_of self.old.objects) }
     {
-        let Some(object) = self.objects.get_mut(&g) else {
+        stand_in_order(&self.objects, &self.places);
+        let Some(place) = place_of(&self.objects, &self.places, &self.opening, g) else {
             return Err(Refused::NoObject);
         };
+        let object = &mut self.objects[place];
         let was = object.is_clean();
         object.post(kind, missed);
         Ok(stays(was, object))
@@ -67,9 +72,11 @@ impl Store {
         ensures order { IsStrictlySortedBy gfid_cmp (keys_of self.old.objects) }
         ensures index { IfOk result (λ stays. stays ≡ true → index_of self.new.objects ≡ index_of self.old.objects) }
     {
-        let Some(object) = self.objects.get_mut(&g) else {
+        stand_in_order(&self.objects, &self.places);
+        let Some(place) = place_of(&self.objects, &self.places, &self.opening, g) else {
             return Err(Refused::NoObject);
         };
+        let object = &mut self.objects[place];
         let was = object.is_clean();
         object.settle(kind, less);
         Ok(stays(was, object))

@@ -20,7 +20,7 @@ impl Brick {
         ensures absent { (result ≡ Err Refused.NoObject) ↔ (copy_at g self.now.objects ≡ None) }
     {
         let store = &self.store;
-        let Some(object) = store.objects.get(&g) else {
+        let Some(object) = store.get(g) else {
             return Err(Refused::NoObject);
         };
         let bytes = chunk_of(store.alloc, object.content(), at, len)?;
@@ -34,7 +34,7 @@ impl Brick {
         ensures never { result ≢ Err Refused.NoMemory }
     {
         let store = &self.store;
-        let Some(object) = store.objects.get(&g) else {
+        let Some(object) = store.get(g) else {
             return Err(Refused::NoObject);
         };
         Ok(object.names().get(name))
@@ -47,7 +47,7 @@ impl Brick {
         ensures absent { (result ≡ Err Refused.NoObject) ↔ (copy_at g self.now.objects ≡ None) }
     {
         let store = &self.store;
-        let Some(object) = store.objects.get(&g) else {
+        let Some(object) = store.get(g) else {
             return Err(Refused::NoObject);
         };
         let names = object.names().list(store.alloc)?;
@@ -61,7 +61,7 @@ impl Brick {
         ensures never { result ≢ Err Refused.NoMemory }
     {
         let store = &self.store;
-        let Some(object) = store.objects.get(&g) else {
+        let Some(object) = store.get(g) else {
             return Err(Refused::NoObject);
         };
         Ok(object.attrs().get(key))
@@ -74,7 +74,7 @@ impl Brick {
         ensures absent { (result ≡ Err Refused.NoObject) ↔ (copy_at g self.now.objects ≡ None) }
     {
         let store = &self.store;
-        let Some(object) = store.objects.get(&g) else {
+        let Some(object) = store.get(g) else {
             return Err(Refused::NoObject);
         };
         let attrs = object.attrs().list(store.alloc)?;

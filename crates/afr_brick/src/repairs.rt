@@ -8,6 +8,7 @@ ghost use Rattle.afr_brick.specs.Undone.{without};
 ghost use Rattle.afr_object.specs.Repairs.{all_made, mended, renamed, repaired, with_attrs};
 ghost use Rattle.afr_object.specs.Tables.{changed, copy_at, key_cmp, made, name_cmp, with_bytes, with_names};
 
+use crate::places::place_of;
 use crate::refused::Refused;
 use crate::store::Store;
 use afr_base::{Gfid, NameId, NoMemory};
@@ -47,7 +48,7 @@ impl Store {
         ensures absent { (result ≡ Err Refused.NoObject) ↔ (copy_at g self.now.objects ≡ None) }
         ensures never { result ≢ Err Refused.NoMemory }
     {
-        if self.objects.contains_key(&g) {
+        if self.has(g) {
             Ok(())
         } else {
             Err(Refused::NoObject)
@@ -61,9 +62,10 @@ impl Store {
         ensures absent { (result ≡ Err Refused.NoObject) ↔ (copy_at g self.old.objects ≡ None) }
         ensures err { OnErr result (self.new ≡ self.old) }
     {
-        let Some(object) = self.objects.get_mut(&g) else {
+        let Some(place) = place_of(&self.objects, &self.places, &self.opening, g) else {
             return Err(Refused::NoObject);
         };
+        let object = &mut self.objects[place];
         object.copy_in(self.keeps, at, span, bytes)?;
         Ok(())
     }
@@ -75,9 +77,10 @@ impl Store {
         ensures absent { (result ≡ Err Refused.NoObject) ↔ (copy_at g self.old.objects ≡ None) }
         ensures err { OnErr result (self.new ≡ self.old) }
     {
-        let Some(object) = self.objects.get_mut(&g) else {
+        let Some(place) = place_of(&self.objects, &self.places, &self.opening, g) else {
             return Err(Refused::NoObject);
         };
+        let object = &mut self.objects[place];
         object.renew_attrs(self.alloc, attrs)?;
         Ok(())
     }
@@ -117,7 +120,7 @@ impl Store {
         ensures has { IfOk result (λ has. has ≡ true → IfSome (copy_at g self.now.objects) (λ o. o.names ≡ names.now)) }
         ensures absent { (result ≡ Err Refused.NoObject) ↔ (copy_at g self.now.objects ≡ None) }
     {
-        let Some(object) = self.objects.get(&g) else {
+        let Some(object) = self.get(g) else {
             return Err(Refused::NoObject);
         };
         let kept = object.names().list(self.alloc)?;
@@ -127,8 +130,8 @@ impl Store {
     fn rename(&mut self, g: Gfid, names: SortedMap<NameId, Entry>)
         ensures { self.new ≡ record self.old { objects = changed (with_names (λ old. names)) g (copy_at g self.old.objects) self.old.objects } }
     {
-        if let Some(object) = self.objects.get_mut(&g) {
-            object.put_names(names);
+        if let Some(place) = place_of(&self.objects, &self.places, &self.opening, g) {
+            self.objects[place].put_names(names);
         }
     }
 
@@ -159,7 +162,7 @@ impl Store {
         ensures err { OnErr result (self.new ≡ self.old) }
         ensures undo { without (reverse fresh.new.items) self.new.objects ≡ without (reverse fresh.old.items) self.old.objects }
     {
-        if self.objects.contains_key(&entry.gfid) {
+        if self.has(entry.gfid) {
             return Ok(());
         }
         self.add_object(entry.gfid, entry.what)?;

@@ -4,7 +4,7 @@ use Rattle.afr_lines.specs.Work.{Work, work, is_of, is_end}
 use Rattle.afr_lines.specs.declared.line.Line.{Line}
 use Rattle.afr_model.specs.Safe.{log_before}
 use Rattle.afr_check.specs.Freshness.{earliest, first_after}
-use Rattle.afr_check_tables.proofs.LogLemmas.{newest}
+use Rattle.afr_lines.specs.LogLemmas.{newest}
 
 -- a work of the first lines of a log begins at a position, if it has a line
 abbrev pub Starts : Work → List Line → ℕ → Option ℕ → Type 0
@@ -25,7 +25,7 @@ stepped false y line w log at (Some first) h = (omega (arith, h.0), h.1)
 -- after one more line
 pub starts_after : (a : ℕ) (log : List Line) (at : ℕ) (line : Line) (first : Option ℕ) → at < length log → line ≡ get_or log at line
     → StartsAt a log at first → StartsAt a log (at + 1) (first_after first line at a)
-starts_after a log at line first l e h = rw (newest log at line l e) (stepped (is_of a line) (is_end line) line (work a (reverse (take at log))) log at first h)
+starts_after a log at line first l e h = rw (newest log at line l (sym e)) (stepped (is_of a line) (is_end line) line (work a (reverse (take at log))) log at first h)
 
 -- where a work has no line yet, it begins now
 pub starts_now : (a : ℕ) (log : List Line) → work a (reverse log) ≡ [] → reverse log ≡ log_before (work a (reverse log)) (reverse log)

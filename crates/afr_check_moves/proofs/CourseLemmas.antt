@@ -25,18 +25,18 @@ use Rattle.afr_model_moves.specs.Followed.{noted_if, register_by}
 use Rattle.afr_model_moves.specs.Keeps.{keeps_in}
 use Rattle.afr_check_moves.specs.Followed.{register_at}
 use Rattle.afr_check_moves.specs.Judged.{IsMove}
-use Rattle.afr_check_tables.proofs.LogLemmas.{newest}
+use Rattle.afr_lines.specs.LogLemmas.{newest}
 use Rattle.afr_check_moves.proofs.UnlawfulLemmas.{length_before}
 
 -- ---- one line more
 pub followed_place : (a : ℕ) (log : List Line) (at : ℕ) (line : Line) (was : Place) → at < length log → line ≡ get_or log at line → was ≡ place_of a (reverse (take at log)) → (if is_of a line then next_place was line else was) ≡ place_of a (reverse (take (at + 1) log))
-followed_place a log at line was l e same = (λ i. if is_of a line then next_place (same i) line else same i) ∙ ap (place_of a) (sym (newest log at line l e))
+followed_place a log at line was l e same = (λ i. if is_of a line then next_place (same i) line else same i) ∙ ap (place_of a) (sym (newest log at line l (sym e)))
 
 pub followed_register : (p : Plan) (a : ℕ) (log : List Line) (at : ℕ) (line : Line) (was : Place) (shape : Shape) → at < length log → line ≡ get_or log at line → was ≡ place_of a (reverse (take at log)) → shape ≡ p.shape
     → noted_if (is_of a line) (opens was line) shape (register_by p.shape.n (kept_by p) a (reverse (take at log))) at line ≡ register_by p.shape.n (kept_by p) a (reverse (take (at + 1) log))
 followed_register p a log at line was shape l e same size =
     (λ i. noted_if (is_of a line) (opens (same i) line) (size i) (register_by p.shape.n (kept_by p) a (reverse (take at log))) (sym (length_before log at (omega (arith, l))) i) line)
-    ∙ ap (register_by p.shape.n (kept_by p) a) (sym (newest log at line l e))
+    ∙ ap (register_by p.shape.n (kept_by p) a) (sym (newest log at line l (sym e)))
 
 -- ---- moves
 module _ (p : Plan) (shape : Shape) (size : shape ≡ p.shape) (line : Line) (older : List Line) (test : Bool) where

@@ -3,7 +3,7 @@ use Rattle.std.proofs.Common.{List, [], ap, arith, drop, inl, inr, get_or, lengt
 use Rattle.std.proofs.lemmas.List.{length-reverse, length-take, reverse-append, take-append-drop, take_all}
 use Rattle.std.proofs.lemmas.Option.{slice_get-get_or, slice_get_past}
 use Rattle.std.specs.Prelude.{Some}
-use Rattle.afr_check_tables.proofs.LogLemmas.{newest}
+use Rattle.afr_lines.specs.LogLemmas.{newest}
 use Rattle.afr_lines.specs.Log.{EachLine}
 use Rattle.afr_lines.specs.declared.line.Line.{Line}
 use Rattle.afr_model.specs.Honest.{Honest, IsHonest}
@@ -30,13 +30,13 @@ module _ (R : Line → List Line → Type 0) where
   each_before log at h = rest (reverse (drop at log)) (reverse (take at log)) (subst (EachLine R) (parted log at) h)
 
   pub each_at : (log : List Line) (at : ℕ) (line : Line) → at < length log → line ≡ get_or log at line → EachLine R (reverse log) → R line (reverse (take at log))
-  each_at log at line l e h = (let k : EachLine R (line ∷ reverse (take at log)) = subst (EachLine R) (newest log at line l e) (each_before log (at + 1) h) in k.0)
+  each_at log at line l e h = (let k : EachLine R (line ∷ reverse (take at log)) = subst (EachLine R) (newest log at line l (sym e)) (each_before log (at + 1) h) in k.0)
 
   pub one_more : (log : List Line) (at : ℕ) (line : Line) → at < length log → line ≡ get_or log at line → R line (reverse (take at log)) → EachLine R (reverse (take at log)) → EachLine R (reverse (take (at + 1) log))
-  one_more log at line l e h before = subst (EachLine R) (sym (newest log at line l e)) (h, before)
+  one_more log at line l e h before = subst (EachLine R) (sym (newest log at line l (sym e))) (h, before)
 
   pub each_older : (log : List Line) (at : ℕ) (line : Line) → at < length log → line ≡ get_or log at line → EachLine R (reverse (take (at + 1) log)) → EachLine R (reverse (take at log))
-  each_older log at line l e h = (let k : EachLine R (line ∷ reverse (take at log)) = subst (EachLine R) (newest log at line l e) h in k.1)
+  each_older log at line l e h = (let k : EachLine R (line ∷ reverse (take at log)) = subst (EachLine R) (newest log at line l (sym e)) h in k.1)
 
 -- ---- the discipline
 module _ (p : Plan) (log : List Line) where

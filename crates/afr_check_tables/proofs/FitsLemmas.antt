@@ -6,7 +6,7 @@ use Rattle.afr_lines.specs.declared.line.Line.{Line}
 use Rattle.afr_plan.specs.declared.plan.Plan.{Plan}
 use Rattle.afr_model.specs.Tables.{held_before, holds}
 use Rattle.afr_check_tables.specs.Room.{CanTake, Fits, IsMended}
-use Rattle.afr_check_tables.proofs.LogLemmas.{newest}
+use Rattle.afr_lines.specs.LogLemmas.{newest}
 
 -- what fits of a line and those before it
 pub record FitsAt (p : Plan) (line : Line) (older : List Line) (b : ℕ) : Type 0 where
@@ -25,7 +25,7 @@ fits_before p log i b h = older_fits p (reverse (drop i log)) (reverse (take i l
 
 pub fits_at : (p : Plan) (log : List Line) (i b : ℕ) (line : Line) → i < length log → line ≡ get_or log i line → Fits p (reverse log) b → FitsAt p line (reverse (take i log)) b
 fits_at p log i b line l e h =
-    let fits : Fits p (line ∷ reverse (take i log)) b = subst (λ (t : List Line). Fits p t b) (newest log i line l e) (fits_before p log (i + 1) b h) in
+    let fits : Fits p (line ∷ reverse (take i log)) b = subst (λ (t : List Line). Fits p t b) (newest log i line l (sym e)) (fits_before p log (i + 1) b h) in
     record { takes = fits.0; mended = fits.2 }
 
 past_is : (p : Plan) (newer older : List Line) (b : ℕ) → 0 < length newer → held_before p (newer ++ older) (length older) b ≡ holds p older b

@@ -1,17 +1,19 @@
 -- A request that one of the possible sources allows is allowed by each of them, where all are alike or one is left.
-use Rattle.std.proofs.Common.{◌≡◌, ℕ, zero, suc, ◌+◌, ◌<◌, ◌≤◌, ◌&&◌, ◌⊎◌, inl, inr, Bool, true, false, if◌then◌else◌, refl, sym, ap, subst, ◌∙◌, arith}
+use Rattle.std.proofs.Common.{◌≡◌, ℕ, zero, suc, ◌+◌, ◌<◌, ◌≤◌, ◌&&◌, ◌⊎◌, inl, inr, Bool, true, false, List, [], nat_le, if◌then◌else◌, refl, sym, ap, subst, ◌∙◌, arith}
 use Rattle.std.proofs.lemmas.Bool.{cases_lt}
 use Rattle.afr_base.specs.Bricks.{member}
 use Rattle.afr_base.specs.Majority.{count_below}
 use Rattle.afr_base.specs.declared.ids.Kind.{Kind}
+use Rattle.afr_lines.specs.declared.lock.Domain.TheVariants.{Heal, Work}
 use Rattle.afr_lines.specs.declared.request.Request.{Request}
+use Rattle.afr_lines.specs.declared.request.Request.TheVariants as asks
 use Rattle.afr_model_moves.proofs.Tests.{both, some_yes}
 use Rattle.afr_model_moves.specs.Keeps.{keeps_in}
-use Rattle.afr_model_moves.specs.Register.{Exact}
+use Rattle.afr_model_moves.specs.Register.{Exact, rank}
 use Rattle.afr_model_moves.specs.Sets.{any}
-use Rattle.afr_model_moves.specs.Steps.{may_heal}
+use Rattle.afr_model_moves.specs.Steps.{goes_on, may_heal}
 use Rattle.afr_discipline.specs.Alike.{IsAlike}
-use Rattle.afr_discipline.specs.Inside.{allows}
+use Rattle.afr_discipline.specs.Inside.{allows, is_unlock}
 use Rattle.afr_discipline.specs.Notes.{picked, possible_now, still_possible}
 use Rattle.afr_discipline.specs.Stands.{seen_as}
 use Rattle.afr_discipline.specs.declared.register.Register.{Register}
@@ -99,3 +101,28 @@ one_left p b request few one some =
     let t = some_yes p.shape.n (allows p.shape.n (keeps_in p.shape) (seen_as p) b request) some in
     sym (picked_same (allows p.shape.n (keeps_in p.shape) (seen_as p) b request) (member p.possible)
     (λ s small. left_allows p.shape.n (keeps_in p.shape) (seen_as p) b request one s t.0 small (omega (arith, few, t.1)) t.2))
+
+-- ---- an unlock before any look
+module _ (n : ℕ) (keeps : ℕ → Kind → Bool) (r : Exact) (s b : ℕ) where
+  -- no source allows it
+  pub early_unlock : (request : Request) → is_unlock request ≡ true → nat_le 7 (rank r.step) ≡ false → may_heal n keeps r s b request ≡ false
+  early_unlock (asks.Unlock Work area) u e = go (goes_on n keeps r s) refl
+    where
+      go : (g : Bool) → goes_on n keeps r s ≡ g → may_heal n keeps r s b (asks.Unlock Work area) ≡ false
+      go true h = rw (h, e) refl
+      go false h = rw h refl
+  early_unlock (asks.Unlock Heal area) u e = go (goes_on n keeps r s) refl
+    where
+      go : (g : Bool) → goes_on n keeps r s ≡ g → may_heal n keeps r s b (asks.Unlock Heal area) ≡ false
+      go true h = rw (h, e) refl
+      go false h = rw h refl
+  early_unlock request u e = absurd (cc u)
+
+and_no : (a : Bool) → (a && false) ≡ false
+and_no true = refl
+and_no false = refl
+
+-- what no source allows leaves none
+pub none_left : (p : Register) (b : ℕ) (request : Request) → ((n s c : ℕ) → may_heal n (keeps_in p.shape) (seen_as p) s c request ≡ false) → [] ≡ still_possible p b request
+none_left p b request never =
+    sym (picked_same (allows p.shape.n (keeps_in p.shape) (seen_as p) b request) (λ (s : ℕ). false) (λ s small. ap (λ (m : Bool). member p.possible s && m) (never p.shape.n s b) ∙ and_no (member p.possible s)))

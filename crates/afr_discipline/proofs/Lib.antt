@@ -4,6 +4,7 @@ mod Decisions
 mod HealDecisions
 mod SetsOfFive
 mod AllowedLemmas
+mod FirstLemmas
 mod LeftLemmas
 mod NotedLaw
 mod NotedShape

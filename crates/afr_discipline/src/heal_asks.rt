@@ -94,7 +94,7 @@ fn some_allows(register: &Register, b: BrickId, request: &Request) -> bool
     )
 }
 
-fn gives_back(request: &Request) -> bool
+pub(crate) fn gives_back(request: &Request) -> bool
     ensures { result ≡ is_unlock request.now }
 {
     match request {

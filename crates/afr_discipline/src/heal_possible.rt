@@ -1,14 +1,16 @@
 //! The copies that may still be the source of a heal after a request.
-ghost use Rattle.std.specs.Prelude.{◌≡◌, ◌<◌, ◌≤◌, true};
+ghost use Rattle.std.specs.Prelude.{◌≡◌, ℕ, ◌<◌, ◌≤◌, false, true};
 ghost use Rattle.afr_lines.specs.declared.request.Request.{Request};
 ghost use Rattle.afr_model_moves.specs.Keeps.{keeps_in};
+ghost use Rattle.afr_model_moves.specs.Steps.{may_heal};
 ghost use Rattle.afr_discipline.specs.Alike.{IsAlike};
 ghost use Rattle.afr_discipline.specs.Notes.{IsAllowed, possible_now, still_possible};
 ghost use Rattle.afr_discipline.specs.Stands.{seen_as};
 
-use crate::heal_asks::{is_allowed_by, may_heal};
+use crate::heal_asks::{gives_back, is_allowed_by, may_heal};
 use crate::of_five::picked;
 use crate::register::{Register, Step};
+use crate::steps::rank;
 use afr_base::{BrickId, BrickSet};
 use afr_lines::{Area, Domain, Request};
 
@@ -81,17 +83,32 @@ pub(crate) fn still_possible(register: &Register, b: BrickId, request: &Request)
     }
 }
 
-/// The copies that may be the source, one by one.
+/// The copies that may be the source.
 fn all_possible(register: &Register) -> BrickSet
     ensures { result ≡ possible_now register.now }
 {
-    picked(
-        register.possible.has(BrickId(0)),
-        register.possible.has(BrickId(1)),
-        register.possible.has(BrickId(2)),
-        register.possible.has(BrickId(3)),
-        register.possible.has(BrickId(4)),
-    )
+    register.possible.is_of_five();
+    register.possible
+}
+
+/// An unlock before any look, which no source allows.
+fn is_early(register: &Register, request: &Request) -> bool
+    ensures { result ≡ true → (n s b : ℕ) → may_heal n (keeps_in register.now.shape) (seen_as register.now) s b request.now ≡ false }
+{
+    gives_back(request) && rank(register.step) < 7
+}
+
+/// The copies that may still be the source of a heal that only unlocks.
+fn broken_possible(register: &Register, b: BrickId, request: &Request) -> BrickSet
+    requires few { register.now.shape.n ≤ 5 }
+    requires small { b.0 < 5 }
+    ensures { result ≡ still_possible register.now b.0 request.now }
+{
+    if is_early(register, request) {
+        BrickSet::none()
+    } else {
+        still_possible(register, b, request)
+    }
 }
 
 /// The copies that may still be the source after a request that one of them allows: all that might, where each allows it or
@@ -104,7 +121,7 @@ pub(crate) fn left_possible(register: &Register, b: BrickId, request: &Request) 
     ensures { result ≡ still_possible register.now b.0 request.now }
 {
     if register.broken {
-        return still_possible(register, b, request);
+        return broken_possible(register, b, request);
     }
     if is_alike(register, request) {
         return all_possible(register);

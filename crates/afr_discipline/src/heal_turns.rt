@@ -55,14 +55,11 @@ pub fn first_of(n: u8, set: BrickSet) -> Option<BrickId>
     requires { n ≤ 5 }
     ensures { result ≡ brick_of (find n (member set)) }
 {
-    found_of(
-        n,
-        set.has(BrickId(0)),
-        set.has(BrickId(1)),
-        set.has(BrickId(2)),
-        set.has(BrickId(3)),
-        set.has(BrickId(4)),
-    )
+    let few = set.common(BrickSet::all(n));
+    if few.is_empty() {
+        return None;
+    }
+    Some(few.lowest())
 }
 
 /// The lowest copy that may be the source and lets the heal go on.

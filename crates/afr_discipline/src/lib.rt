@@ -35,5 +35,5 @@ pub use note_steps::asked_at;
 pub use notes::{note, note_allowed};
 pub use of_five::{all_of, lowest_of};
 pub use of_heals::{begun, healed, is_heal, present_part, present_step};
-pub use register::{HealPart, Move, Register, Step, fresh};
+pub use register::{HealPart, Move, Register, Step, fresh, renew};
 pub use views::suffices;

@@ -76,7 +76,7 @@ fn noted(register: &mut Register, step: &Move<'_>, told: &Told, at: u32)
 }
 
 /// Each of the five bricks has its place among the views.
-fn has_five(views: &[Option<View>; 5])
+pub(crate) fn has_five(views: &[Option<View>; 5])
     ensures { length views.now ≡ 5 }
 {}
 

@@ -1,8 +1,10 @@
 //! The register of an actor: what the lines of one work outside its heals, or of one heal, show.
 ghost use Rattle.std.specs.Prelude.{◌≡◌, ◌≤◌};
+ghost use Rattle.afr_choice.specs.Looks.{no_looks};
 ghost use Rattle.afr_model_moves.specs.Register.{untouched};
 ghost use Rattle.afr_discipline.specs.Stands.{Stands, no_lines};
 
+use crate::notes::has_five;
 use afr_base::{BrickId, BrickSet, Gfid, Kind, Shape};
 use afr_choice::Looked;
 use afr_lines::{Area, Request};
@@ -106,6 +108,49 @@ pub fn fresh(shape: Shape) -> Register
     ensures shape { result.shape ≡ shape }
 {
     empty(shape)
+}
+
+/// A register is made that of no line, where it stands: it is large.
+pub fn renew(register: &mut Register)
+    requires { register.old.shape.n ≤ 5 }
+    ensures { register.new ≡ no_lines register.old.shape }
+{
+    register.area = None;
+    register.held = BrickSet::none();
+    register.second = None;
+    register.second_held = BrickSet::none();
+    register.healing = BrickSet::none();
+    forget(&mut register.looked);
+    register.pre = BrickSet::none();
+    register.done = BrickSet::none();
+    register.post = BrickSet::none();
+    forget(&mut register.seen);
+    register.reads = [None; 5];
+    register.upto = 0;
+    register.settled = BrickSet::none();
+    register.broken = false;
+    register.step = Step::Untouched;
+    register.asked = BrickSet::none();
+    register.unlocked = false;
+    register.begun = None;
+    register.inside = false;
+    register.object = Gfid(0);
+    register.kind = Kind::Bytes;
+    register.part = HealPart::Opening;
+    register.possible = BrickSet::all(register.shape.n);
+}
+
+/// Nobody was looked at, written where it stands.
+fn forget(looked: &mut Looked)
+    ensures { looked.new ≡ no_looks }
+{
+    has_five(&looked.views);
+    looked.reached = BrickSet::none();
+    looked.views[0] = None;
+    looked.views[1] = None;
+    looked.views[2] = None;
+    looked.views[3] = None;
+    looked.views[4] = None;
 }
 
 /// The register of no line, field by field.

@@ -226,12 +226,6 @@ pub(crate) fn has_some(n: u8, set: BrickSet) -> bool
     requires { n ≤ 5 }
     ensures { result ≡ any n (member set) }
 {
-    any_of(
-        n,
-        set.has(BrickId(0)),
-        set.has(BrickId(1)),
-        set.has(BrickId(2)),
-        set.has(BrickId(3)),
-        set.has(BrickId(4)),
-    )
+    let few = set.common(BrickSet::all(n));
+    !few.is_empty()
 }

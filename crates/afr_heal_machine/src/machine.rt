@@ -17,7 +17,7 @@ use crate::hearing::{has_looked, note_answer, source_after};
 use crate::laws::a_heal_stays_sound;
 use crate::outcome::HealOutcome;
 use afr_base::{BrickId, Gfid, Kind, NoMemory, Shape};
-use afr_discipline::{Move, Register, fresh, note, present_part};
+use afr_discipline::{Move, Register, fresh, note, present_part, renew};
 use afr_heal::{Coming, heal_next};
 use afr_lines::{Answer, Next, Request, Told, told_of};
 use afr_object::Load;
@@ -65,6 +65,21 @@ impl HealMachine {
             outcome: HealOutcome::Settled,
             contents: nothing(kind),
         }
+    }
+
+    /// Another heal begins in this one's place, for a heal is large. It takes no memory.
+    pub fn begin_again(&mut self, gfid: Gfid, kind: Kind)
+        requires few { self.old.register.shape.n ≤ 5 }
+        requires some { 0 < self.old.register.shape.n }
+        ensures { self.new ≡ heal_from self.old.register.shape gfid kind }
+    {
+        a_heal_stays_sound();
+        self.gfid = gfid;
+        self.kind = kind;
+        renew(&mut self.register);
+        self.source = BrickId(0);
+        self.outcome = HealOutcome::Settled;
+        self.contents = nothing(kind);
     }
 
     /// Takes the memory of the coming move: the merge of the names that were read.

@@ -1,9 +1,12 @@
 -- A heal's lines keep the shape of its register.
-use Rattle.std.proofs.Common.{◌≡◌, ◌∙◌, ℕ, true, refl, ap}
+use Rattle.std.proofs.Common.{◌≡◌, ◌∙◌, ℕ, true, refl, ap, is_some}
+use Rattle.afr_base.specs.declared.ids.BrickId.{BrickId}
 use Rattle.afr_discipline.specs.Laws.{ShapesKept}
 use Rattle.afr_discipline.specs.declared.register.Move.TheVariants as move
 use Rattle.afr_heal.specs.Engine.{Ask, Begins, Ends, NextOfHeal}
-use Rattle.afr_heal_round.specs.Rounding.{is_beginning}
+use Rattle.afr_heal_round.specs.Rounding.{heal_at, is_beginning, is_ending, next_at}
+use Rattle.afr_heal_round.specs.declared.stage.RoundStage.{RoundStage}
+use Rattle.afr_heal_round.specs.declared.stage.RoundStage.TheVariants as stage_of
 use Rattle.afr_lines.specs.Told.{told_by}
 use Rattle.afr_lines.specs.declared.answer.Answer.{Answer}
 use Rattle.afr_lines.specs.declared.answer.Told.TheVariants.{Done}
@@ -25,3 +28,9 @@ begins_part m k = by (coming m) refl k
     by (Ask b request) e k = absurd (cc k)
     by Begins e k = e
     by Ends e k = absurd (cc k)
+
+-- the line that ends a heal is a heal's
+pub ends_heal : (b : BrickId) (stage : RoundStage) → is_ending (next_at b stage) ≡ true → is_some (heal_at stage) ≡ true
+ends_heal b (stage_of.Asking heals) k = absurd (cc k)
+ends_heal b (stage_of.Healing m) k = refl
+ends_heal b (stage_of.Over refused) k = absurd (cc k)

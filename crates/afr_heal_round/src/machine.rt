@@ -1,12 +1,12 @@
 //! A round: what it asks next, and what it makes of the answers.
-ghost use Rattle.std.specs.Prelude.{◌≡◌, ◌<◌, ◌≤◌, true, IfOk, None, OnOk, OnErr, Some, option_map};
+ghost use Rattle.std.specs.Prelude.{◌≡◌, ◌<◌, ◌≤◌, true, IfOk, None, OnOk, OnErr, Some, is_some, option_map};
 ghost use Rattle.afr_rule.specs.Choosing.{IsRule};
 ghost use Rattle.afr_heal_round.specs.List.Round.{next_due, without_next};
 ghost use Rattle.afr_heal_round.specs.Rounding.{CanHear, CarriesNext, IsFed, IsRounding, IsStaged, begun, heal_at, healed, indexed, is_beginning, is_ending, made_ready, next_of, reply_of, round_from, round_given, round_indexed, stage_due, stage_given, stage_indexed, task_from};
 
 use crate::due_list::Round;
 use crate::stage::RoundStage;
-use afr_base::{BrickId, Gfid, NoMemory, Shape, What};
+use afr_base::{BrickId, Gfid, Kind, NoMemory, Shape, What};
 use afr_discipline::each_note_stands;
 use afr_heal_machine::HealMachine;
 use afr_lines::{Answer, Good, Next, Reply, Request};
@@ -188,7 +188,7 @@ impl RoundMachine {
         requires { is_ending (next_of self.old) ≡ true }
         ensures { self.new ≡ healed self.old }
     {
-        self.stage = stage_due(self.alloc, self.shape, &mut self.round);
+        go_on(self.shape, &mut self.round, &mut self.stage);
     }
 
     /// The heal that the round is at.
@@ -258,6 +258,39 @@ fn stage_due(alloc: Global, shape: Shape, round: &mut Round) -> RoundStage
     match round.next_heal() {
         Some((gfid, kind)) => RoundStage::Healing(HealMachine::new(alloc, shape, gfid, kind)),
         None => RoundStage::Over { refused: false },
+    }
+}
+
+/// The next heal of the list begins in the place of the last one, or the round is over.
+fn go_on(_shape: Shape, round: &mut Round, stage: &mut RoundStage)
+    requires few { _shape.n ≤ 5 }
+    requires some { 0 < _shape.n }
+    requires healing { is_some (heal_at stage.old) ≡ true }
+    requires staged { IsStaged _shape stage.old }
+    ensures stage { stage.new ≡ stage_due _shape (next_due round.old) }
+    ensures staged { IsStaged _shape stage.new }
+    ensures round { round.new ≡ without_next round.old }
+{
+    match round.next_heal() {
+        Some((gfid, kind)) => begin_next(_shape, gfid, kind, stage),
+        None => *stage = RoundStage::Over { refused: false },
+    }
+}
+
+fn begin_next(_shape: Shape, gfid: Gfid, kind: Kind, stage: &mut RoundStage)
+    requires few { _shape.n ≤ 5 }
+    requires some { 0 < _shape.n }
+    requires healing { is_some (heal_at stage.old) ≡ true }
+    requires staged { IsStaged _shape stage.old }
+    ensures stage { stage.new ≡ stage_due _shape (Some (gfid, kind)) }
+    ensures staged { IsStaged _shape stage.new }
+{
+    match stage {
+        RoundStage::Healing(heal) => {
+            heal.begin_again(gfid, kind);
+            heal.stays_sound();
+        }
+        _ => unreachable!(),
     }
 }
 

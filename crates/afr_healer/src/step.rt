@@ -1,6 +1,6 @@
 //! One line of a healer.
 ghost use Rattle.std.specs.Prelude.{◌≡◌, ◌<◌, ◌≤◌, ◌^◌, ◌+◌, ◌-◌, ◌++◌, ◌∷◌, [], List, IfOk, None, OnOk, OnErr, Some, is_some, true};
-ghost use Rattle.afr_heal_round.specs.Rounding.{CanHear, IsFed, next_of, task_from};
+ghost use Rattle.afr_heal_round.specs.Rounding.{CanHear, IsFed, next_of, round_from, task_from};
 ghost use Rattle.afr_healer.specs.Acting.{Adds, CanStep, CanStepWith, IsAsked, IsBegun, IsEnded, IsHealed, Readies, Stepped, WrittenBy, met_after, written_on};
 ghost use Rattle.afr_healer.specs.declared.healer.Healer.{Healer};
 ghost use Rattle.afr_rule.specs.Choosing.{IsRule};
@@ -35,10 +35,20 @@ pub fn ready_round(
     match &mut healer.round {
         Some(round) => round.ready(),
         None => {
-            healer.round = Some(RoundMachine::new(alloc, shape, heals, brick));
+            begin_round(alloc, shape, heals, brick, healer);
             Ok(())
         }
     }
+}
+
+/// A round begins. It stands apart, so that only its first line pays for a frame that holds one.
+#[inline(never)]
+fn begin_round(alloc: Global, shape: Shape, heals: bool, brick: BrickId, healer: &mut Healer)
+    requires few { shape.n ≤ 5 }
+    requires within { brick.0 < shape.n }
+    ensures { healer.new ≡ record healer.old { round = Some (round_from shape heals brick) } }
+{
+    healer.round = Some(RoundMachine::new(alloc, shape, heals, brick));
 }
 
 /// A healer is given the task of one object.
@@ -87,14 +97,23 @@ pub fn step_round<F: Fn(&[Candidate]) -> usize>(
             }
             None => {
                 if writes(round, &mut healer.visit, a, position, log)? {
-                    healer.ended += 1;
-                    healer.round = None;
+                    closes(healer);
                 }
                 Ok(())
             }
         },
         None => unreachable!(),
     }
+}
+
+/// The round is over. It stands apart, for to let a round go takes a frame that holds its parts.
+#[inline(never)]
+fn closes(healer: &mut Healer)
+    requires { healer.old.ended < 2 ^ 32 - 1 }
+    ensures { healer.new ≡ record { ended = healer.old.ended + 1; killed = healer.old.killed; visit = healer.old.visit; round = None } }
+{
+    healer.ended += 1;
+    healer.round = None;
 }
 
 /// A line that is no request: a part of a heal begins, a heal ends, or the round, which is answered. It stands apart, so that

@@ -69,6 +69,8 @@ module _ (kept : List Line) (line : Line) where
   one (entry.Copy a b c d e) there = (tt, refl)
   one (entry.PutAttrs a b c) there = (tt, refl)
   one (entry.Settled a b c d) there = (tt, refl)
+  one (entry.HealBegun a b c) there = (tt, refl)
+  one (entry.HealEnded a b c d) there = (tt, refl)
   one (entry.Kept place) there = (omega (arith, there), get_or_append_left kept (line ∷ []) no_line place there)
 
   each : (packed : List Packed) → AreThere (length kept) packed → AreThere (length kept + 1) packed × (lines_in more packed ≡ lines_in kept packed)

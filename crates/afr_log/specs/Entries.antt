@@ -11,12 +11,12 @@ use Rattle.afr_lines.specs.declared.answer.Told.{Told}
 use Rattle.afr_lines.specs.declared.answer.Told.TheVariants as told
 use Rattle.afr_lines.specs.declared.line.Event.TheVariants.{Stop}
 use Rattle.afr_lines.specs.declared.line.Line.{Line}
-use Rattle.afr_lines.specs.declared.line.Line.TheVariants.{Ask, Event}
+use Rattle.afr_lines.specs.declared.line.Line.TheVariants.{Ask, Event, HealBegin, HealEnd}
 use Rattle.afr_lines.specs.declared.request.Area.TheVariants.{Range, Name}
 use Rattle.afr_lines.specs.declared.request.Request.{Request}
 use Rattle.afr_lines.specs.declared.request.Request.TheVariants as request
 use Rattle.afr_object.specs.declared.change.Repair.TheVariants as repair
-use Rattle.afr_log.specs.Log.{asked_line}
+use Rattle.afr_log.specs.Log.{asked_line, reply_in}
 use Rattle.afr_log.specs.declared.id.Id.{Id}
 use Rattle.afr_log.specs.declared.packed.By.{By}
 use Rattle.afr_log.specs.declared.packed.Short.{Short}
@@ -91,9 +91,11 @@ line_of kept (entry.CutTo by id len) = ask_by by (request.Mend (repair.CutTo (gf
 line_of kept (entry.Copy by id at span read) = ask_by by (request.Mend (repair.Copy (gfid_in id) at span read))
 line_of kept (entry.PutAttrs by id read) = ask_by by (request.Mend (repair.PutAttrs (gfid_in id) read))
 line_of kept (entry.Settled kind by id less) = asked_line by (request.Settle (gfid_in id) kind less) told.Done
+line_of kept (entry.HealBegun kind actor id) = HealBegin actor (gfid_in id) kind
+line_of kept (entry.HealEnded kind actor end id) = HealEnd actor (gfid_in id) kind (reply_in end)
 line_of kept (entry.Kept place) = slice_index_or kept place no_line
 
--- which entries are locks, unlocks, parts of an attempt, repairs and settlings; what is left is read, or shows numbers, or is kept
+-- which entries are locks, unlocks, parts of an attempt, repairs and settlings; what is left is read, or shows numbers, or is no request
 abbrev pub is_lock : Packed → Bool
 is_lock (entry.LockRange domain by id from to) = true
 is_lock (entry.LockName domain by id name) = true
@@ -135,12 +137,15 @@ is_marked (entry.FileBytes brick actor len id marks) = true
 is_marked (entry.FileAttrs brick actor len id marks) = true
 is_marked packed = is_dir_or_both packed
 
-abbrev pub is_kept : Packed → Bool
-is_kept (entry.Kept place) = true
-is_kept packed = false
+-- which entries are no requests
+abbrev pub is_unasked : Packed → Bool
+is_unasked (entry.Kept place) = true
+is_unasked (entry.HealBegun kind actor id) = true
+is_unasked (entry.HealEnded kind actor end id) = true
+is_unasked packed = false
 
 abbrev pub is_read : Packed → Bool
-is_read packed = not (is_lock packed) && not (is_unlock packed) && not (is_change packed) && not (is_mend packed) && not (is_settled packed) && not (is_marked packed) && not (is_kept packed)
+is_read packed = not (is_lock packed) && not (is_unlock packed) && not (is_change packed) && not (is_mend packed) && not (is_settled packed) && not (is_marked packed) && not (is_unasked packed)
 
 -- an entry that names a kept line names one of this many
 abbrev pub IsThere : ℕ → Packed → Type 0

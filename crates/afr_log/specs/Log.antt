@@ -4,16 +4,22 @@ use Rattle.afr_base.specs.declared.ids.ActorId.{ActorId}
 use Rattle.afr_lines.specs.declared.answer.Told.{Told}
 use Rattle.afr_lines.specs.declared.answer.Told.TheVariants.{Held}
 use Rattle.afr_lines.specs.declared.line.Line.{Line}
-use Rattle.afr_lines.specs.declared.line.Line.TheVariants.{Ask}
+use Rattle.afr_lines.specs.declared.line.Line.TheVariants.{Ask, HealBegin, HealEnd}
+use Rattle.afr_lines.specs.declared.reply.HealReply.{HealReply}
+use Rattle.afr_lines.specs.declared.reply.HealReply.TheVariants as reply
 use Rattle.afr_lines.specs.declared.request.Request.{Request}
 use Rattle.afr_lines.specs.declared.request.Request.TheVariants.{Lock}
 use Rattle.afr_lines.specs.declared.lock.Domain.TheVariants.{Work}
 use Rattle.afr_lines.specs.declared.lock.Domain.{Domain}
 use Rattle.afr_log.specs.declared.asked.Asker.{Asker}
+use Rattle.afr_log.specs.declared.heals.ShortEnd.{ShortEnd}
+use Rattle.afr_log.specs.declared.heals.ShortEnd.TheVariants as ended
 use Rattle.afr_log.specs.declared.packed.Short.{Short}
 use Rattle.afr_log.specs.declared.packed.Short.TheVariants as short
 use Rattle.afr_log.specs.declared.shown.ShownLine.{ShownLine}
 use Rattle.afr_log.specs.declared.shown.ShownLine.TheVariants.{Made, Kept}
+use Rattle.afr_log.specs.declared.shown.ToldLine.{ToldLine}
+use Rattle.afr_log.specs.declared.shown.ToldLine.TheVariants as told_as
 
 -- the lines, the oldest first, and whether there is room for one more
 pub record Logged : Type 0 where
@@ -24,6 +30,21 @@ pub record Logged : Type 0 where
 abbrev pub shown_line : ShownLine → Line
 shown_line (Made line) = line
 shown_line (Kept line) = line.now
+
+-- the reply that a short one stands for
+abbrev pub reply_in : ShortEnd → HealReply
+reply_in ended.Nothing = reply.Nothing
+reply_in ended.Settled = reply.Settled
+reply_in (ended.Busy owner) = reply.Busy owner
+reply_in ended.Short = reply.Short
+reply_in (ended.Moved brick) = reply.Moved brick
+reply_in ended.Failed = reply.Failed
+
+-- the line that is told
+abbrev pub told_line : ToldLine → Line
+told_line (told_as.Kept line) = line.now
+told_line (told_as.HealBegun actor g kind) = HealBegin actor g kind
+told_line (told_as.HealEnded actor g kind end) = HealEnd actor g kind (reply_in end)
 
 -- the line of a request
 abbrev pub asked_line : Asker → Request → Told → Line

@@ -1,7 +1,7 @@
 //! A packed request, written where its reader wants it.
 ghost use Rattle.std.specs.Prelude.{◌≡◌, ◌||◌, List, Some, false, true};
 ghost use Rattle.afr_lines.specs.declared.line.Line.{Line};
-ghost use Rattle.afr_log.specs.Entries.{ask_by, is_change, is_kept, is_lock, is_marked, is_mend, is_read, is_settled, is_unlock, line_of};
+ghost use Rattle.afr_log.specs.Entries.{ask_by, is_change, is_lock, is_marked, is_mend, is_read, is_settled, is_unasked, is_unlock, line_of};
 ghost use Rattle.afr_log.specs.Log.{asked_line};
 ghost use Rattle.afr_log.specs.declared.packed.Short.TheVariants.{Done};
 
@@ -50,7 +50,7 @@ pub(crate) fn unpack(entry: &Packed, request: &mut Request, told: &mut Told) -> 
     ensures { (by : Asker) → result ≡ Some by → (kept : List Line) → line_of kept entry.now ≡ asked_line by request.new told.new }
 {
     match entry {
-        Packed::Kept(_) => None,
+        Packed::Kept(_) | Packed::HealBegun { .. } | Packed::HealEnded { .. } => None,
         Packed::FileBytes { .. }
         | Packed::FileAttrs { .. }
         | Packed::FileBoth { .. }
@@ -62,7 +62,7 @@ pub(crate) fn unpack(entry: &Packed, request: &mut Request, told: &mut Told) -> 
 }
 
 fn put_short(entry: &Packed, request: &mut Request, told: &mut Told) -> Asker
-    requires { (is_kept entry.now || is_marked entry.now) ≡ false }
+    requires { (is_unasked entry.now || is_marked entry.now) ≡ false }
     ensures { (kept : List Line) → line_of kept entry.now ≡ asked_line result request.new told.new }
 {
     let by = put_request(entry, request);
@@ -72,7 +72,7 @@ fn put_short(entry: &Packed, request: &mut Request, told: &mut Told) -> Asker
 
 /// The request of an entry that holds it with a short answer, in its place, and the rest that is known of its line.
 pub(crate) fn put_request(entry: &Packed, request: &mut Request) -> By
-    requires { (is_kept entry.now || is_marked entry.now) ≡ false }
+    requires { (is_unasked entry.now || is_marked entry.now) ≡ false }
     ensures { (kept : List Line) → line_of kept entry.now ≡ ask_by result request.new }
 {
     match entry {

@@ -2,6 +2,7 @@
 #![tactic(auto)]
 
 mod asked;
+mod heals;
 mod id;
 mod log;
 mod marked;
@@ -11,5 +12,6 @@ mod small;
 mod waits;
 
 pub use asked::Asker;
+pub use heals::ShortEnd;
 pub use log::Log;
-pub use shown::ShownLine;
+pub use shown::{ShownLine, ToldLine};

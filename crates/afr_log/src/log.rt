@@ -1,23 +1,24 @@
 //! The log: its lines in order, and what its readers ask of one line.
-ghost use Rattle.std.specs.Prelude.{◌≡◌, ◌++◌, ◌∷◌, ◌<◌, ◌≤◌, [], true, None, length, slice_get, IfOk, OnOk, Some, vec_len, vec_capacity};
+ghost use Rattle.std.specs.Prelude.{◌≡◌, ◌++◌, ◌∷◌, ◌<◌, ◌≤◌, ℕ, List, [], true, None, length, slice_get, IfOk, OnOk, Some, vec_len, vec_capacity};
 ghost use Rattle.std.specs.Option.{option_copied, option_map};
 ghost use Rattle.afr_lines.specs.Told.{told_by};
 ghost use Rattle.afr_lines.specs.declared.line.Line.TheVariants.{Ask};
 ghost use Rattle.afr_lines.specs.declared.line.Line.{Line};
-ghost use Rattle.afr_log.specs.Entries.{ask_by};
-ghost use Rattle.afr_log.specs.Log.{asked_line, shown_line, unasked, waits_for};
+ghost use Rattle.afr_log.specs.Entries.{IsThere, ask_by, line_of};
+ghost use Rattle.afr_log.specs.Log.{asked_line, shown_line, told_line, unasked, waits_for};
 
 use crate::asked::{Asker, unpack};
+use crate::heals::pack_line;
 use crate::marked::pack_shown;
 use crate::packed::{By, Packed, pack, short_of};
-use crate::shown::{ShownLine, show};
-use crate::waits::{entry_unasked, entry_waits};
+use crate::shown::{ShownLine, ToldLine, show};
+use crate::waits::{entry_asks, entry_unasked, entry_waits};
 use afr_base::{ActorId, BrickId, NoMemory};
 use afr_lines::{Answer, Line, Request, Told, told_of};
 use std::alloc::Global;
 use std::marker::Model;
 
-/// The log of a volume. It keeps most requests packed, and all other lines as they are.
+/// The log of a volume. It keeps most requests packed, and the beginnings and ends of heals, and all other lines as they are.
 #[derive(Drop)]
 pub struct Log {
     /// One entry a line.
@@ -49,7 +50,7 @@ impl Log {
         }
     }
 
-    /// The log of these lines, which are kept as they are.
+    /// The log of these lines.
     pub fn of(alloc: Global, lines: Vec<Line>) -> Result<Log, NoMemory>
         ensures { IfOk result (λ log. log.items ≡ lines.items) }
     {
@@ -82,8 +83,31 @@ impl Log {
         Ok(())
     }
 
-    /// Adds a line, which is kept as it is.
+    /// Adds a line.
+    #[inline]
     pub fn add(&mut self, line: Line)
+        requires { self.old.room ≡ true }
+        ensures { self.new.items ≡ self.old.items ++ line ∷ [] }
+    {
+        match pack_line(&line) {
+            Some(entry) => self.put(entry, &line),
+            None => self.keep(line),
+        }
+    }
+
+    /// Adds the entry of a line.
+    fn put(&mut self, entry: Packed, _line: &Line)
+        requires room { self.old.room ≡ true }
+        requires line { (kept : List Line) → line_of kept entry ≡ _line.now }
+        requires there { (count : ℕ) → IsThere count entry }
+        ensures { self.new.items ≡ self.old.items ++ _line.now ∷ [] }
+    {
+        push_entry(&mut self.packed, entry);
+    }
+
+    /// Adds a line, which is kept as it is. It stands apart, so that only such lines pay for its frame.
+    #[inline(never)]
+    fn keep(&mut self, line: Line)
         requires { self.old.room ≡ true }
         ensures { self.new.items ≡ self.old.items ++ line ∷ [] }
     {
@@ -151,7 +175,7 @@ impl Log {
         requires { self.old.room ≡ true }
         ensures { self.new.items ≡ self.old.items ++ Ask actor brick request.now (told_by answer.now) took ∷ [] }
     {
-        self.add(Line::Ask {
+        self.keep(Line::Ask {
             actor,
             brick,
             request: *request,
@@ -166,7 +190,7 @@ impl Log {
         requires { self.old.room ≡ true }
         ensures { self.new.items ≡ self.old.items ++ ask_by by request.now ∷ [] }
     {
-        self.add(by.ask(*request));
+        self.keep(by.ask(*request));
     }
 
     /// A request whose answer is short.
@@ -202,9 +226,20 @@ impl Log {
         }
     }
 
+    /// Whether there is no line at a position that is no request; then `told_at` shows none. That is one look at its entry.
+    #[inline]
+    pub fn is_asked(&self, at: usize) -> bool
+        ensures { result ≡ true → unasked (slice_get self.now.items at) ≡ None }
+    {
+        match entry_at(self.packed.as_slice(), at) {
+            Some(entry) => entry_asks(entry),
+            None => true,
+        }
+    }
+
     /// The line at a position, where it is no request.
-    pub fn told_at(&self, at: usize) -> Option<&Line>
-        ensures { option_copied result ≡ unasked (slice_get self.now.items at) }
+    pub fn told_at(&self, at: usize) -> Option<ToldLine<'_>>
+        ensures { option_map told_line result ≡ unasked (slice_get self.now.items at) }
     {
         match entry_at(self.packed.as_slice(), at) {
             Some(entry) => entry_unasked(entry, self.kept.as_slice()),

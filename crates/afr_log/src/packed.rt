@@ -1,5 +1,5 @@
-//! The entries of the log: nearly all requests with their answers in 40 bytes, and the places of the lines that are kept as
-//! they are.
+//! The entries of the log: nearly all requests with their answers, and the beginnings and ends of heals, in 40 bytes, and the
+//! places of the lines that are kept as they are.
 ghost use Rattle.std.specs.Prelude.{◌≡◌, ℕ, List, IfSome, Some};
 ghost use Rattle.afr_lines.specs.Told.{told_by};
 ghost use Rattle.afr_lines.specs.declared.answer.Told.TheVariants.{Seen};
@@ -9,6 +9,7 @@ ghost use Rattle.afr_lines.specs.declared.request.Request.TheVariants.{Lock, Men
 ghost use Rattle.afr_log.specs.Entries.{IsThere, ask_by, line_of, told_in};
 
 use crate::asked::Asker;
+use crate::heals::ShortEnd;
 use crate::id::{Id, id_of};
 use crate::small::SmallMarks;
 use afr_base::{ActorId, AllMarks, BrickId, BrickSet, Gfid, KeyId, Kind, Marks, NameId, What};
@@ -184,6 +185,19 @@ pub(crate) enum Packed {
         by: Asker,
         id: Id,
         less: Marks,
+    },
+    /// A part of a heal begins.
+    HealBegun {
+        kind: Kind,
+        actor: ActorId,
+        id: Id,
+    },
+    /// A heal has ended otherwise than in a split.
+    HealEnded {
+        kind: Kind,
+        actor: ActorId,
+        end: ShortEnd,
+        id: Id,
     },
     /// The line at this place of those that are kept.
     Kept(usize),

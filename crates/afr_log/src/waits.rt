@@ -1,31 +1,61 @@
 //! What is asked of a line without making it: whether it is a request, and whom it waits for.
-ghost use Rattle.std.specs.Prelude.{◌≡◌, length};
-ghost use Rattle.std.specs.Option.{option_copied};
+ghost use Rattle.std.specs.Prelude.{◌≡◌, List, None, length, true};
+ghost use Rattle.std.specs.Option.{option_map};
+ghost use Rattle.afr_lines.specs.declared.line.Line.{Line};
 ghost use Rattle.afr_log.specs.Entries.{IsThere, line_of};
-ghost use Rattle.afr_log.specs.Log.{unasked_line, waited_for, waits_for};
+ghost use Rattle.afr_log.specs.Log.{told_line, unasked_line, waited_for, waits_for};
 
 use crate::packed::{Packed, Short};
+use crate::shown::ToldLine;
 use afr_base::ActorId;
 use afr_lines::{Domain, Line, Request, Told};
 
 /// A line that is kept, where it is no request.
-fn unasked(line: &Line) -> Option<&Line>
-    ensures { option_copied result ≡ unasked_line line.now }
+fn unasked(line: &Line) -> Option<ToldLine<'_>>
+    ensures { option_map told_line result ≡ unasked_line line.now }
 {
     match line {
         Line::Ask { .. } => None,
-        _ => Some(line),
+        _ => Some(ToldLine::Kept(line)),
     }
 }
 
-/// The line of an entry among the kept lines, where it is no request.
-pub(crate) fn entry_unasked<'a>(entry: &Packed, kept: &'a [Line]) -> Option<&'a Line>
+/// The line of an entry, where it is no request and these lines are kept.
+pub(crate) fn entry_unasked<'a>(entry: &Packed, kept: &'a [Line]) -> Option<ToldLine<'a>>
     requires { IsThere (length kept.now) entry.now }
-    ensures { option_copied result ≡ unasked_line (line_of kept.now entry.now) }
+    ensures { option_map told_line result ≡ unasked_line (line_of kept.now entry.now) }
 {
     match entry {
         Packed::Kept(place) => unasked(&kept[*place]),
+        Packed::HealBegun { kind, actor, id } => Some(ToldLine::HealBegun {
+            actor: *actor,
+            gfid: id.gfid(),
+            kind: *kind,
+        }),
+        Packed::HealEnded {
+            kind,
+            actor,
+            end,
+            id,
+        } => Some(ToldLine::HealEnded {
+            actor: *actor,
+            gfid: id.gfid(),
+            kind: *kind,
+            end: *end,
+        }),
         _ => None,
+    }
+}
+
+/// Whether an entry holds a request.
+pub(crate) fn entry_asks(entry: &Packed) -> bool
+    ensures { (kept : List Line) → result ≡ true → unasked_line (line_of kept entry.now) ≡ None }
+{
+    match entry {
+        Packed::Kept(_) => false,
+        Packed::HealBegun { .. } => false,
+        Packed::HealEnded { .. } => false,
+        _ => true,
     }
 }
 

@@ -1,14 +1,11 @@
 -- A table of one lock at most: what is in the way of another, and what is left of it.
-use Rattle.std.proofs.Common.{◌≡◌, ◌≤◌, Bool, true, false, cond, not, List, [], ◌∷◌, length, refl, sym, ap, ◌∙◌, arith, Some, None, slice_get, if◌then◌else◌}
+use Rattle.std.proofs.Common.{◌≡◌, ◌<◌, ◌≤◌, Bool, true, false, cond, not, List, [], ◌∷◌, length, refl, sym, ap, ◌∙◌, arith, Option, Some, None, IfSome, is_some, slice_get, if◌then◌else◌}
 use Rattle.std.proofs.lemmas.Option.{same_Some}
-use Rattle.std.specs.BTreeMap.{is_at}
 use Rattle.std.specs.List.{filter}
-use Rattle.std.specs.Map.{remove_entry}
 use Rattle.afr_lines.specs.Locks.{is_lock}
 use Rattle.afr_lines.specs.declared.lock.HeldLock.{HeldLock}
 use Rattle.afr_range_locks.proofs.EarlierLemmas.{earlier_none}
-use Rattle.afr_range_locks.proofs.KeyLemmas.{key_itself}
-use Rattle.afr_range_locks.specs.Granted.{conflict_at, first_equal, first_granted, key_cmp}
+use Rattle.afr_range_locks.specs.Granted.{conflict_at, first_equal, first_granted}
 use Rattle.afr_range_locks.specs.declared.table.Key.{Key}
 
 module _ {A : Type 0} (overlap : A → A → Bool) (wanted : HeldLock A) where
@@ -25,15 +22,17 @@ module _ {A : Type 0} (same : A → A → Bool) (one : HeldLock A) where
   equal_of_one e (x ∷ []) few is = ap (λ (e : Key × HeldLock A). if is_lock same one e.1 then Some e.0 else None) (sym (same_Some _ _ is))
   equal_of_one e (x ∷ y ∷ entries) few is = absurd (omega (arith, few))
 
-  -- where it is equal, nothing is left
-  pub taken_out : (k : Key) (entries : List (Key × HeldLock A)) → length entries ≤ 1 → Some k ≡ first_equal same one entries → remove_entry (is_at (key_cmp k)) entries ≡ filter (λ e. not (is_lock same one e.1)) entries
-  taken_out k [] few is = absurd (cc)
-  taken_out k (x ∷ []) few is = go (is_lock same one x.1) refl is
+  -- where it is equal, the first entry is taken out, and nothing is left
+  pub taken_out : (k : Key) (r : Option (Key × HeldLock A)) (entries after : List (Key × HeldLock A)) → length entries ≤ 1 → Some k ≡ first_equal same one entries → IfSome r (λ p. entries ≡ p ∷ after) → (0 < length entries → is_some r ≡ true)
+      → after ≡ filter (λ e. not (is_lock same one e.1)) entries
+  taken_out k r [] after few is out there = absurd (cc)
+  taken_out k None (x ∷ []) after few is out there = absurd (cc (there (omega arith)))
+  taken_out k (Some p) (x ∷ []) after few is out there = go (is_lock same one x.1) refl is
     where
-      go : (b : Bool) → is_lock same one x.1 ≡ b → Some k ≡ (if b then Some x.0 else None) → remove_entry (is_at (key_cmp k)) (x ∷ []) ≡ cond (not (is_lock same one x.1)) (x ∷ []) []
-      go true e is = let key : k ≡ x.0 = cc in rw (key, key_itself, e) refl
+      go : (b : Bool) → is_lock same one x.1 ≡ b → Some k ≡ (if b then Some x.0 else None) → after ≡ cond (not (is_lock same one x.1)) (x ∷ []) []
+      go true e is = let o : x ∷ [] ≡ p ∷ after = out in let gone : after ≡ [] = cc in rw (e, gone) refl
       go false e is = absurd (cc)
-  taken_out k (x ∷ y ∷ entries) few is = absurd (omega (arith, few))
+  taken_out k r (x ∷ y ∷ entries) after few is out there = absurd (omega (arith, few))
 
   -- where it isn't, it is left
   pub left_in : (entries : List (Key × HeldLock A)) → length entries ≤ 1 → None ≡ first_equal same one entries → entries ≡ filter (λ e. not (is_lock same one e.1)) entries

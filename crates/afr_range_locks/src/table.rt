@@ -232,13 +232,13 @@ pub(crate) fn release<A: Lockable>(locks: &mut Locks<A>, next: u64, held: &HeldL
     }
 }
 
-/// The same, where at most one lock is held.
+/// The same, where at most one lock is held: where it is equal, it is the first, which is taken out without a search.
 fn release_one<A: Lockable>(locks: &mut Locks<A>, held: &HeldLock<A>)
     requires { length locks.old.entries ≤ 1 }
     ensures { locks.new.entries ≡ filter (λ e. not (is_lock A.same held.now e.1)) locks.old.entries }
 {
-    if let Some(key) = equal_of_one(locks, held) {
-        locks.remove(&key);
+    if let Some(_) = equal_of_one(locks, held) {
+        locks.pop_first();
     }
 }
 

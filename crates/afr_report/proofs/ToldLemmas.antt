@@ -1,8 +1,7 @@
 -- A log that is read from its oldest line on, by those of its lines that are no requests: a request tells of no actor, and stops or starts no brick.
-use Rattle.std.proofs.Common.{◌≡◌, ◌∙◌, ◌⊎◌, inl, inr, ℕ, suc, ◌+◌, ◌<◌, ◌≤◌, true, List, [], ◌∷◌, ◌++◌, Option, Some, None, refl, sym, ap, arith, length, take, get_or, reverse, option_and_then, slice_get}
-use Rattle.std.proofs.Math.Seq.{take-suc}
-use Rattle.std.proofs.lemmas.List.{length-reverse, length-take-le, reverse-append}
+use Rattle.std.proofs.Common.{◌≡◌, ◌∙◌, ◌⊎◌, inl, inr, ℕ, ◌+◌, ◌<◌, ◌≤◌, true, List, ◌∷◌, Option, Some, None, refl, sym, ap, arith, length, take, get_or, reverse, option_and_then, slice_get}
 use Rattle.std.proofs.lemmas.Option.{none-some, slice_get_cases, slice_get_within, get_or_from_slice_get}
+use Rattle.afr_lines.specs.LogLemmas.{length-before, newest}
 use Rattle.afr_lines.specs.declared.line.Line.{Line}
 use Rattle.afr_lines.specs.declared.line.Line.TheVariants.{Ask, Begin, HealBegin, End, HealEnd, Event}
 use Rattle.afr_log.specs.Log.{unasked, unasked_line}
@@ -11,17 +10,9 @@ use Rattle.afr_report.specs.BrickLines.{AreBrickLines, IsBrickLine}
 use Rattle.afr_report.specs.Own.{is_one, placed, places, subject_of}
 use Rattle.afr_report.proofs.BrickLinesLemmas.{brick_line_at}
 
--- of the lines up to a position the one that stands there
-pub newest : (log : List Line) (at : ℕ) (line : Line) → slice_get log at ≡ Some line → reverse (take (at + 1) log) ≡ line ∷ reverse (take at log)
-newest log at line e =
-    let next : at + 1 ≡ suc at = omega arith in
-    let whole : take (at + 1) log ≡ take at log ++ line ∷ [] =
-    ap (λ (n : ℕ). take n log) next ∙ take-suc log at line (slice_get_within log at line e) ∙ ap (λ (x : Line). take at log ++ x ∷ []) (get_or_from_slice_get log at line line e) in
-    ap (λ (t : List Line). reverse t) whole ∙ reverse-append (take at log) (line ∷ [])
-
--- so many lines stand before it
-before : (log : List Line) (at : ℕ) → at < length log → length (reverse (take at log)) ≡ at
-before log at small = length-reverse (take at log) ∙ length-take-le at log (omega (arith, small))
+-- of the lines up to a position the newest is the one that the position shows
+pub newest_shown : (log : List Line) (at : ℕ) (line : Line) → slice_get log at ≡ Some line → reverse (take (at + 1) log) ≡ line ∷ reverse (take at log)
+newest_shown log at line e = newest log at line (slice_get_within log at line e) (get_or_from_slice_get log at line line e)
 
 -- the line at a position of the log
 pub line_there : (log : List Line) (at : ℕ) → at < length log → (line : Line) × (slice_get log at ≡ Some line)
@@ -66,8 +57,8 @@ placed_next log at small =
     let e = line_there log at small in
     ap (λ (o : Option Line). placed (option_and_then subject_of (unasked o)) at (places (reverse (take at log)))) e.1
     ∙ ap (λ (o : Option ℕ). placed o at (places (reverse (take at log)))) (told_unasked e.0)
-    ∙ ap (λ (n : ℕ). placed (subject_of e.0) n (places (reverse (take at log)))) (sym (before log at small))
-    ∙ ap (λ (lines : List Line). places lines) (sym (newest log at e.0 e.1))
+    ∙ ap (λ (n : ℕ). placed (subject_of e.0) n (places (reverse (take at log)))) (sym (length-before log at small))
+    ∙ ap (λ (lines : List Line). places lines) (sym (newest_shown log at e.0 e.1))
 
 -- ---- bricks
 -- a line that is shown names a brick that a volume may have, if it stops or starts one
@@ -78,7 +69,7 @@ shown_brick log at line e h =
 
 -- the started bricks after it
 pub started_shown : (n : ℕ) (log : List Line) (at : ℕ) (line : Line) → Some line ≡ unasked (slice_get log at) → started_by line (started_bricks n (reverse (take at log))) ≡ started_bricks n (reverse (take (at + 1) log))
-started_shown n log at line e = ap (λ (lines : List Line). started_bricks n lines) (sym (newest log at line (shown (slice_get log at) line e)))
+started_shown n log at line e = ap (λ (lines : List Line). started_bricks n lines) (sym (newest_shown log at line (shown (slice_get log at) line e)))
 
 quiet : (line : Line) (bricks : List ℕ) → None ≡ unasked_line line → bricks ≡ started_by line bricks
 quiet (Ask actor brick request told took) bricks e = refl
@@ -93,4 +84,13 @@ pub started_asked : (n : ℕ) (log : List Line) (at : ℕ) → at < length log �
 started_asked n log at small e =
     let there = line_there log at small in
     quiet there.0 (started_bricks n (reverse (take at log))) (e ∙ ap unasked there.1)
-    ∙ ap (λ (lines : List Line). started_bricks n lines) (sym (newest log at there.0 there.1))
+    ∙ ap (λ (lines : List Line). started_bricks n lines) (sym (newest_shown log at there.0 there.1))
+
+-- and after any line
+pub started_next : (n : ℕ) (log : List Line) (at : ℕ) (bricks after : List ℕ) → at < length log → bricks ≡ started_bricks n (reverse (take at log)) → (unasked (slice_get log at) ≡ None → after ≡ bricks)
+    → ((line : Line) → unasked (slice_get log at) ≡ Some line → after ≡ started_by line bricks) → after ≡ started_bricks n (reverse (take (at + 1) log))
+started_next n log at bricks after small was asked line = go (unasked (slice_get log at)) refl
+  where
+    go : (o : Option Line) → unasked (slice_get log at) ≡ o → after ≡ started_bricks n (reverse (take (at + 1) log))
+    go None e = asked e ∙ was ∙ started_asked n log at small (sym e)
+    go (Some l) e = line l e ∙ ap (λ (b : List ℕ). started_by l b) was ∙ started_shown n log at l (sym e)

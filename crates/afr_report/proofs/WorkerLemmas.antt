@@ -9,7 +9,7 @@ use Rattle.afr_lines.specs.declared.line.Line.TheVariants.{Ask, Begin, End, Even
 use Rattle.afr_lines.specs.declared.request.Request.{Request}
 use Rattle.afr_log.specs.Log.{unasked, unasked_line}
 use Rattle.afr_report.specs.Workers.{is_task_heal, is_worker_killed, shown_if, taken_behind, task_heals}
-use Rattle.afr_report.proofs.ToldLemmas.{line_there, newest, shown}
+use Rattle.afr_report.proofs.ToldLemmas.{line_there, newest_shown as newest, shown}
 
 -- ---- the line at a position, by what is shown of it
 -- where it is shown, what it says is what is shown says

@@ -6,7 +6,7 @@ ghost use Rattle.afr_report.specs.Own.{lines_at, places};
 
 use crate::commands::push_command;
 use crate::own::{line_at, own_places};
-use crate::progress::{Progress, progress_of, reply_by, standing};
+use crate::progress::{Progress, progress_of, standing, told_reply};
 use afr_base::{ActorId, NoMemory};
 use afr_log::Log;
 use afr_object::List;
@@ -92,8 +92,8 @@ fn push_ended(
 {
     let mut before = 0;
     for at in own {
-        if let Some(line) = line_at(log, *at) {
-            if let Some(reply) = reply_by(client, line) {
+        if let Some(told) = line_at(log, *at) {
+            if let Some(reply) = told_reply(client, told) {
                 push_command(out, words, before, command_after(before, commands), reply)?;
                 before += 1;
             }

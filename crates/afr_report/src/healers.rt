@@ -4,9 +4,9 @@ ghost use Rattle.afr_model.specs.ReportHealers.{healer_text, healers_text, round
 ghost use Rattle.afr_report.specs.Heals.{healer_head, round_with};
 ghost use Rattle.afr_report.specs.Own.{lines_at, places};
 
-use crate::heals::push_heal;
+use crate::heals::push_told_heal;
 use crate::own::{line_at, own_places};
-use crate::progress::{Progress, progress_of, reply_by, standing};
+use crate::progress::{Progress, progress_of, standing, told_reply};
 use afr_base::{ActorId, FIRST_HEALER, MOST_CLIENTS, NoMemory};
 use afr_lines::Reply;
 use afr_log::Log;
@@ -98,13 +98,13 @@ fn push_rounds(
     let mut before = 0;
     let mut heals = String::new(*out.allocator());
     for at in own {
-        if let Some(line) = line_at(log, *at) {
-            if let Some(reply) = reply_by(healer, line) {
+        if let Some(told) = line_at(log, *at) {
+            if let Some(reply) = told_reply(healer, told) {
                 push_round(out, words, before, reply, heals.as_str())?;
                 heals.clear();
                 before += 1;
             } else {
-                push_heal(&mut heals, healer, line)?;
+                push_told_heal(&mut heals, healer, told)?;
             }
         }
     }

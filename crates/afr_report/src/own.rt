@@ -1,12 +1,12 @@
 //! Where in the log the lines stand that tell how far each actor has come, gathered in one pass.
 ghost use Rattle.std.specs.Prelude.{◌≡◌, IfOk, OnOk, [], length, replicate, reverse, slice_get, slice_index_or};
-ghost use Rattle.std.specs.Option.{option_and_then, option_copied, option_map};
-ghost use Rattle.afr_log.specs.Log.{unasked};
+ghost use Rattle.std.specs.Option.{option_and_then, option_map};
+ghost use Rattle.afr_log.specs.Log.{told_line, unasked};
 ghost use Rattle.afr_report.specs.Own.{placed, places, subject_of};
 
 use afr_base::{ACTORS, ActorId, NoMemory};
 use afr_lines::{Event, Line};
-use afr_log::Log;
+use afr_log::{Log, ToldLine};
 use afr_object::List;
 use std::alloc::Global;
 
@@ -17,7 +17,7 @@ pub fn places(alloc: Global, log: &Log) -> Result<Vec<List<u32>>, NoMemory>
 {
     let mut lists = no_places(alloc)?;
     for at in 0..log.len() {
-        note(&mut lists, log.told_at(at), at)?;
+        note_at(&mut lists, log, at)?;
     }
     Ok(lists)
 }
@@ -34,14 +34,24 @@ fn no_places(alloc: Global) -> Result<Vec<List<u32>>, NoMemory>
     Ok(lists)
 }
 
-/// Notes the position of a line, if there is one and it tells of an actor.
-fn note(lists: &mut Vec<List<u32>>, line: Option<&Line>, at: usize) -> Result<(), NoMemory>
-    ensures ok { OnOk result (lists.new.items ≡ placed (option_and_then subject_of (option_copied line.entry)) at lists.old.items) }
+/// Notes a position, if its line is no request and tells of an actor.
+fn note_at(lists: &mut Vec<List<u32>>, log: &Log, at: usize) -> Result<(), NoMemory>
+    ensures ok { OnOk result (lists.new.items ≡ placed (option_and_then subject_of (unasked (slice_get log.now.items at))) at lists.old.items) }
 {
-    let Some(line) = line else {
+    if log.is_asked(at) {
+        return Ok(());
+    }
+    note(lists, log.told_at(at), at)
+}
+
+/// Notes the position of a line, if there is one and it tells of an actor.
+fn note(lists: &mut Vec<List<u32>>, told: Option<ToldLine<'_>>, at: usize) -> Result<(), NoMemory>
+    ensures ok { OnOk result (lists.new.items ≡ placed (option_and_then subject_of (option_map told_line told.entry)) at lists.old.items) }
+{
+    let Some(told) = told else {
         return Ok(());
     };
-    match subject_of(line) {
+    match told_subject(told) {
         Some(actor) => place(lists, actor.0 as usize, at),
         None => Ok(()),
     }
@@ -57,6 +67,17 @@ fn place(lists: &mut Vec<List<u32>>, actor: usize, at: usize) -> Result<(), NoMe
         lists[actor].push(at)?;
     }
     Ok(())
+}
+
+/// The actor of whom what is told tells how far it has come.
+fn told_subject(told: ToldLine<'_>) -> Option<ActorId>
+    ensures { option_map (λ actor. actor.0) result ≡ subject_of (told_line told.entry) }
+{
+    match told {
+        ToldLine::Kept(line) => subject_of(line),
+        ToldLine::HealBegun { .. } => None,
+        ToldLine::HealEnded { actor, .. } => Some(actor),
+    }
 }
 
 /// The actor of whom the line tells how far it has come.
@@ -106,8 +127,8 @@ pub fn own_places(lists: &[List<u32>], actor: ActorId) -> &[u32]
 }
 
 /// The line at a position of the log, where it is no request.
-pub fn line_at(log: &Log, at: u32) -> Option<&Line>
-    ensures { option_copied result ≡ unasked (slice_get log.now.items at) }
+pub fn line_at(log: &Log, at: u32) -> Option<ToldLine<'_>>
+    ensures { option_map told_line result ≡ unasked (slice_get log.now.items at) }
 {
     log.told_at(at as usize)
 }

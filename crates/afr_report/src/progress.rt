@@ -2,13 +2,14 @@
 ghost use Rattle.std.specs.Prelude.{◌≡◌, reverse};
 ghost use Rattle.std.specs.Option.{option_copied};
 ghost use Rattle.afr_lines.specs.Work.{ended, is_killed, kills, reply_by};
+ghost use Rattle.afr_log.specs.Log.{told_line};
 ghost use Rattle.afr_model.specs.Report.{standing};
 ghost use Rattle.afr_report.specs.Own.{lines_at};
 
 use crate::own::line_at;
 use afr_base::ActorId;
 use afr_lines::{Event, Line, Reply};
-use afr_log::Log;
+use afr_log::{Log, ToldLine};
 
 /// How many works of an actor have ended, and whether it was killed.
 #[derive(Clone, Copy)]
@@ -25,11 +26,11 @@ pub fn progress_of(actor: ActorId, own: &[u32], log: &Log) -> Progress
     let mut done = 0;
     let mut dead = false;
     for at in own {
-        if let Some(line) = line_at(log, *at) {
-            if reply_by(actor, line).is_some() {
+        if let Some(told) = line_at(log, *at) {
+            if told_reply(actor, told).is_some() {
                 done += 1;
             }
-            dead = kills(actor, line) || dead;
+            dead = told_kill(actor, told) || dead;
         }
     }
     Progress { done, dead }
@@ -48,8 +49,30 @@ pub fn standing(dead: bool, done: usize, works: usize) -> &'static str
     }
 }
 
+/// What is told to answer a work of the actor.
+pub fn told_reply<'a>(actor: ActorId, told: ToldLine<'a>) -> Option<&'a Reply>
+    ensures { option_copied result ≡ reply_by actor.0 (told_line told.entry) }
+{
+    match told {
+        ToldLine::Kept(line) => reply_by(actor, line),
+        ToldLine::HealBegun { .. } => None,
+        ToldLine::HealEnded { .. } => None,
+    }
+}
+
+/// Whether what is told kills the actor.
+fn told_kill(actor: ActorId, told: ToldLine<'_>) -> bool
+    ensures { result ≡ kills actor.0 (told_line told.entry) }
+{
+    match told {
+        ToldLine::Kept(line) => kills(actor, line),
+        ToldLine::HealBegun { .. } => false,
+        ToldLine::HealEnded { .. } => false,
+    }
+}
+
 /// What the line answers a work of the actor.
-pub fn reply_by(actor: ActorId, line: &Line) -> Option<&Reply>
+fn reply_by(actor: ActorId, line: &Line) -> Option<&Reply>
     ensures { option_copied result ≡ reply_by actor.0 line.now }
 {
     match line {

@@ -111,10 +111,8 @@ impl Server {
         ensures links { (x : ℕ) → link_of x self.new.links ≡ only actor.0 x (link_served first false self.old.links.started) (link_of x self.old.links) }
     {
         count(&mut self.sessions, &mut self.faults, actor, first);
-        *given = Served {
-            answer,
-            took: false,
-        };
+        given.answer = answer;
+        given.took = false;
     }
 
     /// The request is carried out and answered.

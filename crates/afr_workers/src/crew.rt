@@ -2,12 +2,13 @@
 ghost use Rattle.std.specs.Prelude.{◌≡◌, ◌+◌, ◌==◌, ◌||◌, ◌<◌, ◌^◌, if◌then◌else◌, Some, reverse, slice_get};
 ghost use Rattle.afr_lines.specs.declared.line.Line.{Line};
 ghost use Rattle.afr_lines.specs.Work.{is_killed, kills};
+ghost use Rattle.afr_log.specs.Log.{told_line};
 ghost use Rattle.afr_workers.specs.Crew.{noted};
 
 use crate::next::Next;
 use afr_base::{ActorId, FIRST_HEALER};
 use afr_lines::{Event, Line};
-use afr_log::Log;
+use afr_log::{Log, ToldLine};
 
 /// The second healer of a plan, a worker where the healers crawl.
 pub(crate) const SECOND: u16 = FIRST_HEALER + 1;
@@ -92,13 +93,24 @@ fn kills_at(log: &Log, at: usize, a: u16) -> bool
     ensures { (line : Line) → slice_get log.now.items at ≡ Some line → result ≡ kills a line }
 {
     match log.told_at(at) {
-        Some(line) => kills(a, line),
+        Some(told) => kills(a, told),
         None => false,
     }
 }
 
+/// Whether the line that is told kills this actor.
+fn kills(a: u16, told: ToldLine<'_>) -> bool
+    ensures { result ≡ kills a (told_line told.entry) }
+{
+    match told {
+        ToldLine::Kept(line) => kills_here(a, line),
+        ToldLine::HealBegun { .. } => false,
+        ToldLine::HealEnded { .. } => false,
+    }
+}
+
 /// Whether the line kills this actor.
-fn kills(a: u16, line: &Line) -> bool
+fn kills_here(a: u16, line: &Line) -> bool
     ensures { result ≡ kills a line.now }
 {
     match line {

@@ -1,10 +1,11 @@
 //! How the commands of clients and the heals of a log ended.
 ghost use Rattle.std.specs.Prelude.{◌≡◌, cond, count_by};
+ghost use Rattle.afr_log.specs.Log.{told_line};
 ghost use Rattle.afr_report.specs.Summary.Summary as specs;
 
 use afr_base::{ActorId, MOST_CLIENTS};
 use afr_lines::{HealReply, Line, Reply};
-use afr_log::Log;
+use afr_log::{Log, ToldLine};
 
 /// How often each end comes in a log.
 #[derive(Clone, Copy)]
@@ -27,10 +28,10 @@ pub fn count_ends(log: &Log) -> EndCounts
     let mut refused = 0;
     let mut settled = 0;
     for at in 0..log.len() {
-        if let Some(line) = log.told_at(at) {
-            ok += one_if(ends_ok(line));
-            refused += one_if(ends_refused(line));
-            settled += one_if(ends_settled(line));
+        if let Some(told) = log.told_at(at) {
+            ok += one_if(told_ok(told));
+            refused += one_if(told_refused(told));
+            settled += one_if(told_settled(told));
         }
     }
     EndCounts {
@@ -44,6 +45,36 @@ fn one_if(holds: bool) -> usize
     ensures { result ≡ cond holds 1 0 }
 {
     if holds { 1 } else { 0 }
+}
+
+fn told_ok(told: ToldLine<'_>) -> bool
+    ensures { result ≡ specs.ends_ok (told_line told.entry) }
+{
+    match told {
+        ToldLine::Kept(line) => ends_ok(line),
+        ToldLine::HealBegun { .. } => false,
+        ToldLine::HealEnded { .. } => false,
+    }
+}
+
+fn told_refused(told: ToldLine<'_>) -> bool
+    ensures { result ≡ specs.ends_refused (told_line told.entry) }
+{
+    match told {
+        ToldLine::Kept(line) => ends_refused(line),
+        ToldLine::HealBegun { .. } => false,
+        ToldLine::HealEnded { .. } => false,
+    }
+}
+
+fn told_settled(told: ToldLine<'_>) -> bool
+    ensures { result ≡ specs.ends_settled (told_line told.entry) }
+{
+    match told {
+        ToldLine::Kept(line) => ends_settled(line),
+        ToldLine::HealBegun { .. } => false,
+        ToldLine::HealEnded { end, .. } => is_settled(&end.reply()),
+    }
 }
 
 fn ends_ok(line: &Line) -> bool

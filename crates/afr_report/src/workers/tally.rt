@@ -2,12 +2,13 @@
 ghost use Rattle.std.specs.Prelude.{◌≡◌, ◌+◌, ◌||◌, ◌≤◌, Some, if◌then◌else◌, length, reverse, slice_get};
 ghost use Rattle.afr_lines.specs.Work.{ended, ends_work, kills};
 ghost use Rattle.afr_lines.specs.declared.line.Line.{Line};
+ghost use Rattle.afr_log.specs.Log.{told_line};
 ghost use Rattle.afr_report.specs.Workers.{is_worker_killed};
 
 use crate::progress::kills;
 use afr_base::{ActorId, FIRST_HEALER};
 use afr_lines::Line;
-use afr_log::Log;
+use afr_log::{Log, ToldLine};
 
 /// The first healer, the crawler.
 const CRAWLER: u16 = FIRST_HEALER;
@@ -59,12 +60,23 @@ pub fn ends_at(log: &Log, at: usize, a: u16) -> usize
     ensures few { result ≤ 1 }
 {
     match log.told_at(at) {
-        Some(line) => ends(line, a),
+        Some(told) => ends(told, a),
         None => 0,
     }
 }
 
-fn ends(line: &Line, a: u16) -> usize
+fn ends(told: ToldLine<'_>, a: u16) -> usize
+    ensures value { result ≡ (if ends_work a (told_line told.entry) then 1 else 0) }
+    ensures few { result ≤ 1 }
+{
+    match told {
+        ToldLine::Kept(line) => ends_here(line, a),
+        ToldLine::HealBegun { .. } => 0,
+        ToldLine::HealEnded { .. } => 0,
+    }
+}
+
+fn ends_here(line: &Line, a: u16) -> usize
     ensures value { result ≡ (if ends_work a line.now then 1 else 0) }
     ensures few { result ≤ 1 }
 {
@@ -86,12 +98,22 @@ fn kills_at(log: &Log, at: usize) -> bool
     ensures { (line : Line) → slice_get log.now.items at ≡ Some line → result ≡ (kills 18 line || kills 19 line) }
 {
     match log.told_at(at) {
-        Some(line) => kills_worker(line),
+        Some(told) => kills_worker(told),
         None => false,
     }
 }
 
-fn kills_worker(line: &Line) -> bool
+fn kills_worker(told: ToldLine<'_>) -> bool
+    ensures { result ≡ (kills 18 (told_line told.entry) || kills 19 (told_line told.entry)) }
+{
+    match told {
+        ToldLine::Kept(line) => kills_worker_here(line),
+        ToldLine::HealBegun { .. } => false,
+        ToldLine::HealEnded { .. } => false,
+    }
+}
+
+fn kills_worker_here(line: &Line) -> bool
     ensures { result ≡ (kills 18 line.now || kills 19 line.now) }
 {
     kills(ActorId(SECOND), line) || kills(ActorId(THIRD), line)

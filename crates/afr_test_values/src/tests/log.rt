@@ -1,7 +1,7 @@
 //! One log, in which each public call has its part.
 use afr_base::{ActorId, AllMarks, BrickId, Gfid, NameId, NoMemory, What};
 use afr_lines::{Answer, Area, Domain, Event, Line, Request, Told};
-use afr_log::Log;
+use afr_log::{Log, ToldLine};
 use afr_object::View;
 use std::alloc::Global;
 use std::test::Fail;
@@ -91,9 +91,9 @@ fn shows_the_number(log: &Log) -> bool {
 fn tells_the_stop_alone(log: &Log) -> bool {
     let stop = matches!(
         log.told_at(2),
-        Some(Line::Event {
+        Some(ToldLine::Kept(Line::Event {
             event: Event::Stop(BrickId(1)),
-        })
+        }))
     );
     stop && log.told_at(0).is_none() && log.told_at(1).is_none() && log.told_at(3).is_none()
 }
@@ -126,9 +126,9 @@ fn a_log_is_made_of_lines(rt: HostRuntime) -> Result<(), Fail> {
     assert!(rt; log.len() == 1);
     let start = matches!(
         log.told_at(0),
-        Some(Line::Event {
+        Some(ToldLine::Kept(Line::Event {
             event: Event::Start(BrickId(4)),
-        })
+        }))
     );
     assert!(rt; start);
     Ok(())

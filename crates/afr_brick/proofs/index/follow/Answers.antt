@@ -4,5 +4,5 @@ use Rattle.afr_brick.proofs.index.follow.Goals as goal
 
 pub returns : goal.returns
 returns c =
-    let there : copy_at c.args.g c.args.store.now.objects ≡ Some c.in-Some.object.now = rw (← c.store.view_is) (sym c.in-Some.ensures.value) in
+    let there : copy_at c.args.g c.args.store.now.objects ≡ Some c.in-Some.object.now = sym c.in-Some.ensures.value in
     rw there (rw c.take.ensures.value at c.relist.ensures)

@@ -13,8 +13,9 @@ returns-in-Some-asks-clause-ok g c =
 
 pub returns-then-branch-clause-ok : goal.returns-then-branch-clause-ok
 returns-then-branch-clause-ok g c =
-    stepped_unheard c.args.a c.args.position c.args.healer.now _ c.in-Some.round c.args.servers.now c.args.servers.now c.args.log.now.items _ (IsFed g.F.Fn c.args.rule.now) c.in-Some.is
-    (rw c.if-branch.true at (c.in_ok-writes-in-None-asks.ensures.ok c.args.healer.now c.args.servers.now))
+    rw c.closes.ensures
+    (stepped_unheard c.args.a c.args.position c.args.healer.now _ c.in-Some.round c.args.servers.now c.args.servers.now c.args.log.now.items _ (IsFed g.F.Fn c.args.rule.now) c.in-Some.is
+    (rw c.if-branch.true at (c.in_ok-writes-in-None-asks.ensures.ok c.args.healer.now c.args.servers.now)))
 
 pub returns-else-branch-clause-ok : goal.returns-else-branch-clause-ok
 returns-else-branch-clause-ok g c =

@@ -1,5 +1,4 @@
-use Rattle.std.proofs.Common.{List, Option, ℕ, ap, option_and_then, slice_get, ◌∙◌}
-use Rattle.afr_lines.specs.declared.line.Line.{Line}
+use Rattle.std.proofs.Common.{List, ℕ, ap, option_and_then, slice_get, ◌∙◌}
 use Rattle.afr_log.specs.Log.{unasked}
 use Rattle.afr_report.specs.Own.{placed, subject_of}
 use Rattle.afr_report.proofs.ToldLemmas.{placed_next}
@@ -7,7 +6,6 @@ use Rattle.afr_report.proofs.own.places.Goals as goal
 
 pub loop-at-preserved : goal.loop-at-preserved
 loop-at-preserved c =
-    c.in_ok-note.ensures.ok
-    ∙ ap (λ (o : Option Line). placed (option_and_then subject_of o) c.loop-at.at c.loop-at.lists.items) c.told_at.ensures
+    c.in_ok-note_at.ensures.ok
     ∙ ap (λ (lists : List (List ℕ)). placed (option_and_then subject_of (unasked (slice_get c.args.log.now.items c.loop-at.at))) c.loop-at.at lists) c.loop-at.invariant
     ∙ placed_next c.args.log.now.items c.loop-at.at (rw c.len-at-end.ensures at c.loop-at-test.true)

@@ -1,7 +1,8 @@
 -- One line more.
-use Rattle.std.proofs.Common.{◌≡◌, ◌∙◌, ◌++◌, ◌<◌, List, [], ◌∷◌, Bor, Some, None, ap, arith, length, map, refl}
+use Rattle.std.proofs.Common.{◌≡◌, ◌∙◌, ◌++◌, ◌<◌, List, [], ◌∷◌, Some, None, ap, arith, length, map, refl}
 use Rattle.std.proofs.lemmas.List.{map_push}
-use Rattle.afr_lines.specs.declared.line.Line.{Line}
+use Rattle.afr_log.specs.Log.{told_line}
+use Rattle.afr_log.specs.declared.shown.ToldLine.{ToldLine}
 use Rattle.afr_report.proofs.WorkerLemmas.{ended_next, heals_next}
 use Rattle.afr_report.proofs.workers.task_heals.gather_heals.Goals.{in-Some+in_ok-push, in_default}
 use Rattle.afr_report.proofs.workers.task_heals.gather_heals.Goals as goal
@@ -14,8 +15,8 @@ loop-at-preserved c =
     record {
       heals = elim c.match-task_heal_at.branch [
         | in-Some+in_ok-push w ↦
-            heals_next c.args.all.second c.args.all.third items c.loop-at.at c.loop-at.second c.loop-at.third (Some w.in-Some.line.now) _ _ small w.in-Some.ensures inv.second inv.third inv.heals
-            (rw w.heals-is (ap (λ (l : List (Bor Line)). map (λ (x : Bor Line). x.now) l) w.in_ok-push.ensures.items ∙ map_push (λ (x : Bor Line). x.now) c.loop-at.heals.items w.in-Some.line))
+            heals_next c.args.all.second c.args.all.third items c.loop-at.at c.loop-at.second c.loop-at.third (Some (told_line w.in-Some.told)) _ _ small w.in-Some.ensures inv.second inv.third inv.heals
+            (rw w.heals-is (ap (λ (l : List ToldLine). map told_line l) w.in_ok-push.ensures.items ∙ map_push told_line c.loop-at.heals.items w.in-Some.told))
         | in_default w ↦
             heals_next c.args.all.second c.args.all.third items c.loop-at.at c.loop-at.second c.loop-at.third None _ _ small w.in_default.ensures inv.second inv.third inv.heals
             (rw w.heals-is refl)

@@ -1,0 +1,12 @@
+-- The heal that begins is of the volume of the one in whose place it stands.
+use Rattle.std.proofs.Common.{◌∙◌, ap}
+use Rattle.afr_base.specs.declared.ids.Shape.{Shape}
+use Rattle.afr_heal_machine.specs.Healing.{Healing as Heal, heal_from}
+use Rattle.afr_heal_round.specs.declared.stage.RoundStage.TheVariants.{Healing}
+use Rattle.afr_heal_round.proofs.machine.begin_next.Goals as goal
+
+pub returns-clause-stage : goal.returns-clause-stage
+returns-clause-stage c = ap Healing (c.begin_again.ensures ∙ ap (λ (shape : Shape). heal_from shape c.args.gfid c.args.kind) (rw c.in-Healing.is at c.requires.staged).1)
+
+pub returns-clause-staged : goal.returns-clause-staged
+returns-clause-staged c = (c.stays_sound.ensures, ap (λ (m : Heal). m.register.shape) c.begin_again.ensures ∙ (rw c.in-Healing.is at c.requires.staged).1)
