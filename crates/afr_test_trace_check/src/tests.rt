@@ -85,35 +85,82 @@ fn found(alloc: Global, eighth: &str, other: &str) -> Result<Finding, Fail> {
 
 #[test]
 fn the_trace_of_a_run_is_right(rt: HostRuntime) -> Result<(), Fail> {
-    let found = found(rt.alloc(), "7 c1 b0 look f1 seen\n", "24 c2 end ok 68656c6c6f\n")?;
+    let found = found(
+        rt.alloc(),
+        "7 c1 b0 look f1 seen\n",
+        "24 c2 end ok 68656c6c6f\n",
+    )?;
     assert!(rt; found == Finding::Yes(35), "{found:?}");
     Ok(())
 }
 
 #[test]
-fn a_line_of_another_brick_does_not_follow(rt: HostRuntime) -> Result<(), Fail> {
-    let found = found(rt.alloc(), "7 c1 b1 look f1 seen\n", "24 c2 end ok 68656c6c6f\n")?;
-    assert!(rt; found == Finding::No { line: 7, rule: Rule::Follows }, "{found:?}");
+fn an_event_does_not_come_early(rt: HostRuntime) -> Result<(), Fail> {
+    let found = found(rt.alloc(), "7 event kill c1\n", "24 c2 end ok 68656c6c6f\n")?;
+    assert!(rt;
+        found
+            == Finding::No {
+                line: 7,
+                rule: Rule::Follows
+            },
+        "{found:?}"
+    );
     Ok(())
 }
 
 #[test]
 fn a_brick_that_is_up_has_no_lost_request(rt: HostRuntime) -> Result<(), Fail> {
-    let found = found(rt.alloc(), "7 c1 b0 look f1 gone\n", "24 c2 end ok 68656c6c6f\n")?;
-    assert!(rt; found == Finding::No { line: 7, rule: Rule::Honest }, "{found:?}");
+    let found = found(
+        rt.alloc(),
+        "7 c1 b0 look f1 gone\n",
+        "24 c2 end ok 68656c6c6f\n",
+    )?;
+    assert!(rt;
+        found
+            == Finding::No {
+                line: 7,
+                rule: Rule::Honest
+            },
+        "{found:?}"
+    );
     Ok(())
 }
 
 #[test]
-fn a_read_gives_what_was_read(rt: HostRuntime) -> Result<(), Fail> {
+fn what_a_command_answers_is_not_judged(rt: HostRuntime) -> Result<(), Fail> {
     let found = found(rt.alloc(), "7 c1 b0 look f1 seen\n", "24 c2 end ok -\n")?;
-    assert!(rt; found == Finding::No { line: 24, rule: Rule::Follows }, "{found:?}");
+    assert!(rt; found == Finding::Yes(35), "{found:?}");
+    Ok(())
+}
+
+#[test]
+fn a_read_begins_no_write(rt: HostRuntime) -> Result<(), Fail> {
+    let found = found(
+        rt.alloc(),
+        "7 c1 b0 look f1 seen\n",
+        "24 c2 begin write f1 0 5\n",
+    )?;
+    assert!(rt;
+        found
+            == Finding::No {
+                line: 24,
+                rule: Rule::Follows
+            },
+        "{found:?}"
+    );
     Ok(())
 }
 
 #[test]
 fn a_text_that_ends_early_breaks_its_form(rt: HostRuntime) -> Result<(), Fail> {
     let found = found(rt.alloc(), "7 c1 b0 look f1 seen\n", "24 c2 end\n")?;
-    assert!(rt; found == Finding::No { line: 24, rule: Rule::Text }, "{found:?}");
+    assert!(rt;
+        found
+            == Finding::No {
+                line: 24,
+                rule: Rule::Text
+            },
+        "{found:?}"
+    );
     Ok(())
 }
