@@ -14,7 +14,6 @@ use afr_text::{Sink, write_all};
 use std::alloc::Global;
 
 /// The line that tells how the program is called.
-pub const USAGE: &[u8] = b"usage: afr run | trace | info | gen N | live | crawl | record | replay T | check\n";
 pub const USAGE: &[u8] =
     b"usage: afr run | trace | info | gen N | live | crawl | record | replay T | check\n";
 
