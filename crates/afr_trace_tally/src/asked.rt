@@ -9,7 +9,7 @@ ghost use Rattle.afr_model.specs.Locks.{locks_held};
 ghost use Rattle.afr_model.specs.Report.{started_bricks};
 ghost use Rattle.afr_model.specs.Sessions.{is_joined, is_linked, opens_with};
 ghost use Rattle.afr_model.specs.Sums.{dirty_of, has_object, pending_of};
-ghost use Rattle.afr_model.specs.Tables.{bytes_shown, held_before, names_shown};
+ghost use Rattle.afr_model.specs.Tables.{bytes_shown, held_before, keeps_bytes, names_shown};
 ghost use Rattle.afr_lines.specs.Log.{from_oldest};
 ghost use Rattle.afr_object.specs.Tables.{copy_at, view_of};
 ghost use Rattle.afr_trace_tables.specs.Plain.{plain_tables};
@@ -30,6 +30,7 @@ use crate::locks::first_conflict;
 use crate::sessions::opens_with;
 use crate::tally::Tally;
 use afr_base::{ActorId, BrickId, Gfid, Kind, Marks, NoMemory};
+use afr_brick::Brick;
 use afr_lines::{Area, Domain, Line};
 use afr_object::{Entry, List, NameList, View};
 use afr_plan::Plan;
@@ -194,6 +195,15 @@ impl Tally {
         ensures few { result ≤ length log.now }
     {
         self.brick(plan, log, b).requests
+    }
+
+    /// The tables of a brick, with all numbers 0.
+    pub fn tables(&self, plan: &Plan, log: &[Line], b: BrickId) -> &Brick
+        requires tally { IsTally plan.now (reverse log.now) self.now }
+        requires brick { b.0 < 5 }
+        ensures { result.now ≡ record { keeps = keeps_bytes plan.now b.0; objects = (plain_tables plan.now (reverse log.now)).now b.0 } }
+    {
+        &self.brick(plan, log, b).brick
     }
 
     /// What a brick has of an object, with all numbers 0.

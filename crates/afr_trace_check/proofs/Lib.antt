@@ -1,0 +1,12 @@
+pub mod BlamingLemmas
+pub mod FeedLemmas
+pub mod FillingLemmas
+pub mod FoundLemmas
+pub mod OutcomeLemmas
+pub mod PieceLemmas
+pub mod RoomLemmas
+pub mod SameLemmas
+pub mod ShownLemmas
+pub mod ToldLemmas
+pub mod ViewLemmas
+pub mod WorkLemmas

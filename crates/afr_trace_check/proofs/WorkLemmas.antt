@@ -1,0 +1,120 @@
+-- What the lines of an actor's work make, one line more.
+use Rattle.std.proofs.Common.{◌≡◌, ◌∙◌, ℕ, suc, ◌+◌, ◌<◌, ◌≤◌, ◌||◌, ◌&&◌, Bool, true, false, List, [], ◌∷◌, ◌++◌, Option, Some, length, take, reverse, get_or, refl, sym, ap, arith, if◌then◌else◌}
+use Rattle.std.proofs.lemmas.List.{length-reverse, length-take, reverse-append, take_all}
+use Rattle.std.proofs.Math.Seq.{take-suc}
+use Rattle.afr_base.specs.declared.ids.Gfid.{Gfid}
+use Rattle.afr_lines.specs.Work.{Work, is_end, is_of, work}
+use Rattle.afr_lines.specs.declared.line.Line.{Line}
+use Rattle.afr_model.specs.Blamed.{missing}
+use Rattle.afr_model.specs.Healing.{heal_by, is_border}
+use Rattle.afr_model.specs.Showing.{among, has}
+use Rattle.afr_model.specs.Standing.{locks_any, since}
+use Rattle.afr_trace_check.specs.Works.{in_work, last_list, lists}
+
+-- ---- the lines up to a position
+-- the newest of them is the one that stands there
+pub newest : (log : List Line) (at : ℕ) (line : Line) → at < length log → line ≡ get_or log at line → reverse (take (at + 1) log) ≡ line ∷ reverse (take at log)
+newest log at line l e =
+    let next : at + 1 ≡ suc at = omega arith in
+    let all : take (at + 1) log ≡ take at log ++ line ∷ [] = ap (λ (n : ℕ). take n log) next ∙ take-suc log at line l ∙ ap (λ (x : Line). take at log ++ x ∷ []) (sym e) in
+    ap (λ (t : List Line). reverse t) all ∙ reverse-append (take at log) (line ∷ [])
+
+-- there are as many as it says
+pub length_before : (log : List Line) (at : ℕ) → at ≤ length log → at ≡ length (reverse (take at log))
+length_before log at l = omega (arith, length-reverse (take at log), length-take at log)
+
+-- what holds of all of them
+pub whole : {A : Type 0} (F : List Line → A) (log : List Line) (at : ℕ) (x : A) → length log ≤ at → x ≡ F (reverse (take at log)) → x ≡ F (reverse log)
+whole F log at x long h = h ∙ ap (λ (t : List Line). F (reverse t)) (take_all at log long)
+
+-- ---- a work
+work_step : {A : Type 0} (F : Work → A) (f : Line → List Line → A → A) → ((line : Line) (older : List Line) (w : Work) → F ((line, older) ∷ w) ≡ f line older (F w)) → (a : ℕ) (line : Line) (older : List Line) (was : A)
+    → was ≡ F (work a older) → (if is_of a line then (if is_end line then F [] else f line older was) else was) ≡ F (work a (line ∷ older))
+work_step {A} F f step a line older was h = by (is_of a line) (is_end line)
+  where
+    by : (of end : Bool) → (if of then (if end then F [] else f line older was) else was) ≡ F (if of then (if end then [] else (line, older) ∷ work a older) else work a older)
+    by true true = refl
+    by true false = ap (f line older) h ∙ sym (step line older (work a older))
+    by false end = h
+
+-- what each line of a work makes of what the lines before it made
+pub work_next : {A : Type 0} (F : Work → A) (f : Line → List Line → A → A) → ((line : Line) (older : List Line) (w : Work) → F ((line, older) ∷ w) ≡ f line older (F w)) → (a : ℕ) (log : List Line) (at : ℕ) (line : Line) (was : A)
+    → at < length log → line ≡ get_or log at line → was ≡ F (work a (reverse (take at log)))
+    → (if is_of a line then (if is_end line then F [] else f line (reverse (take at log)) was) else was) ≡ F (work a (reverse (take (at + 1) log)))
+work_next F f step a log at line was l e h = work_step F f step a line (reverse (take at log)) was h ∙ ap (λ (t : List Line). F (work a t)) (sym (newest log at line l e))
+
+-- ---- a work, or its present heal
+-- a heal, one line more
+healed : (of end : Bool) (line : Line) (older : List Line) (w : Work)
+    → (if of then (if end then [] else (if is_border line then [] else (line, older) ∷ heal_by w)) else heal_by w) ≡ heal_by (if of then (if end then [] else (line, older) ∷ w) else w)
+healed true true line older w = refl
+healed true false line older w = refl
+healed false end line older w = refl
+
+heal_step : {A : Type 0} (F : Work → A) (f : Line → List Line → A → A) → ((line : Line) (older : List Line) (w : Work) → F ((line, older) ∷ w) ≡ f line older (F w)) → (heal : Bool) (a : ℕ) (line : Line) (older : List Line) (was : A)
+    → was ≡ F (in_work heal (work a older)) → (if is_of a line then (if is_end line || (heal && is_border line) then F [] else f line older was) else was) ≡ F (in_work heal (work a (line ∷ older)))
+heal_step {A} F f step true a line older was h = by (is_of a line) (is_end line) (is_border line) ∙ ap F (healed (is_of a line) (is_end line) line older (work a older))
+  where
+    by : (of end border : Bool) → (if of then (if end || (true && border) then F [] else f line older was) else was)
+        ≡ F (if of then (if end then [] else (if border then [] else (line, older) ∷ heal_by (work a older))) else heal_by (work a older))
+    by true true border = refl
+    by true false true = refl
+    by true false false = ap (f line older) h ∙ sym (step line older (heal_by (work a older)))
+    by false end border = h
+heal_step {A} F f step false a line older was h = by (is_of a line) (is_end line)
+  where
+    by : (of end : Bool) → (if of then (if end || (false && is_border line) then F [] else f line older was) else was) ≡ F (if of then (if end then [] else (line, older) ∷ work a older) else work a older)
+    by true true = refl
+    by true false = ap (f line older) h ∙ sym (step line older (work a older))
+    by false end = h
+
+-- what each line of it makes of what the lines before it made
+pub heal_next : {A : Type 0} (F : Work → A) (f : Line → List Line → A → A) → ((line : Line) (older : List Line) (w : Work) → F ((line, older) ∷ w) ≡ f line older (F w)) → (heal : Bool) (a : ℕ) (log : List Line) (at : ℕ) (line : Line) (was : A)
+    → at < length log → line ≡ get_or log at line → was ≡ F (in_work heal (work a (reverse (take at log))))
+    → (if is_of a line then (if is_end line || (heal && is_border line) then F [] else f line (reverse (take at log)) was) else was) ≡ F (in_work heal (work a (reverse (take (at + 1) log))))
+heal_next F f step heal a log at line was l e h = heal_step F f step heal a line (reverse (take at log)) was h ∙ ap (λ (t : List Line). F (in_work heal (work a t))) (sym (newest log at line l e))
+
+-- ---- since the first lock
+-- nothing was missed before the first lock
+none_before : (g : Gfid) (w : Work) → has locks_any w ≡ false → among (missing g) (since locks_any w) ≡ []
+none_before g [] h = refl
+none_before g (x ∷ w) h = by (locks_any x.0) (has locks_any w) h
+  where
+    by : (here later : Bool) → (here || later) ≡ false → among (missing g) (if later then x ∷ since locks_any w else (if here then x ∷ [] else [])) ≡ []
+    by false false e = refl
+    by true later e = absurd (cc e)
+    by false true e = absurd (cc e)
+
+missing_more : (g : Gfid) (line : Line) (older : List Line) (w : Work)
+    → (if locks_any line || has locks_any w then missing g line (among (missing g) (since locks_any w)) else []) ≡ among (missing g) (since locks_any ((line, older) ∷ w))
+missing_more g line older w = by (locks_any line) (has locks_any w) refl
+  where
+    by : (here later : Bool) → has locks_any w ≡ later
+        → (if here || later then missing g line (among (missing g) (since locks_any w)) else []) ≡ among (missing g) (if later then (line, older) ∷ since locks_any w else (if here then (line, older) ∷ [] else []))
+    by true true e = refl
+    by false true e = refl
+    by true false e = ap (missing g line) (none_before g w e)
+    by false false e = refl
+
+missing_step : (g : Gfid) (a : ℕ) (line : Line) (older : List Line) (locked : Bool) (was : List ℕ) → locked ≡ has locks_any (work a older) → was ≡ among (missing g) (since locks_any (work a older))
+    → (if is_of a line then (if is_end line then [] else (if locks_any line || locked then missing g line was else [])) else was) ≡ among (missing g) (since locks_any (work a (line ∷ older)))
+missing_step g a line older locked was hl hw = by (is_of a line) (is_end line)
+  where
+    by : (of end : Bool) → (if of then (if end then [] else (if locks_any line || locked then missing g line was else [])) else was)
+        ≡ among (missing g) (since locks_any (if of then (if end then [] else (line, older) ∷ work a older) else work a older))
+    by true true = refl
+    by true false = rw (hl, hw) (missing_more g line older (work a older))
+    by false end = hw
+
+-- the bricks that missed something, one line more
+pub missing_next : (g : Gfid) (a : ℕ) (log : List Line) (at : ℕ) (line : Line) (locked : Bool) (was : List ℕ) → at < length log → line ≡ get_or log at line → locked ≡ has locks_any (work a (reverse (take at log)))
+    → was ≡ among (missing g) (since locks_any (work a (reverse (take at log))))
+    → (if is_of a line then (if is_end line then [] else (if locks_any line || locked then missing g line was else [])) else was) ≡ among (missing g) (since locks_any (work a (reverse (take (at + 1) log))))
+missing_next g a log at line locked was l e hl hw =
+    missing_step g a line (reverse (take at log)) locked was hl hw ∙ ap (λ (t : List Line). among (missing g) (since locks_any (work a t))) (sym (newest log at line l e))
+
+-- ---- the last list
+-- its position, one line more
+pub list_next : (a : ℕ) (log : List Line) (at : ℕ) (line : Line) (was : Option ℕ) → at < length log → line ≡ get_or log at line → was ≡ last_list a (reverse (take at log))
+    → (if lists a line then Some (length (reverse (take at log))) else was) ≡ last_list a (reverse (take (at + 1) log))
+list_next a log at line was l e h = ap (λ (o : Option ℕ). if lists a line then Some (length (reverse (take at log))) else o) h ∙ ap (last_list a) (sym (newest log at line l e))

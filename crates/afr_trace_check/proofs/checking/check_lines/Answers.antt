@@ -1,0 +1,10 @@
+use Rattle.afr_trace_check.proofs.checking.check_lines.Goals as goal
+
+pub returns-in-Some : goal.returns-in-Some
+returns-in-Some c = ?
+
+pub loop-i-preserved : goal.loop-i-preserved
+loop-i-preserved c = ?
+
+pub returns : goal.returns
+returns c = ?

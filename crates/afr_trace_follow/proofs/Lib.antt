@@ -1,0 +1,11 @@
+pub mod LogLemmas
+pub mod PartLemmas
+pub mod StandLemmas
+pub mod KeepingLemmas
+pub mod RenameLemmas
+pub mod HealLemmas
+pub mod FollowLemmas
+pub mod RisingLemmas
+pub mod NumberLemmas
+pub mod ListLemmas
+pub mod ChangeLemmas

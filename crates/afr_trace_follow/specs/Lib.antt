@@ -1,0 +1,9 @@
+pub mod Seen
+pub mod Parts
+pub mod Stands
+pub mod Keeping
+pub mod Commands
+pub mod Healing
+pub mod Numbers
+pub mod Lists
+pub mod Following

@@ -1,0 +1,17 @@
+//! Whether a line of a trace is what the plan has for its moment, judged by a tally of the lines before.
+#![tactic(auto)]
+
+mod commands;
+mod facts;
+mod following;
+mod keeping;
+mod lists;
+mod numbers;
+mod parts;
+mod path;
+mod renamed;
+mod rounds;
+mod stand;
+
+pub use following::is_following;
+pub use lists::Lists;

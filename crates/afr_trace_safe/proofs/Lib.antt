@@ -1,0 +1,12 @@
+pub mod AcknowledgedLemmas
+pub mod AccusedLemmas
+pub mod CopyLemmas
+pub mod GatheredLemmas
+pub mod LoopLemmas
+pub mod OutsideLemmas
+pub mod PushLemmas
+pub mod QuorumLemmas
+pub mod SafeLemmas
+pub mod SameLemmas
+pub mod StandsLemmas
+pub mod StaysLemmas

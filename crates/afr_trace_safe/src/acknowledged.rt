@@ -1,0 +1,90 @@
+//! The first reply after an attempt, and whether it acknowledges the attempt.
+ghost use Rattle.std.specs.Prelude.{◌≡◌, reverse, slice_get};
+ghost use Rattle.std.specs.Option.{option_copied};
+ghost use Rattle.afr_lines.specs.Log.{from_oldest};
+ghost use Rattle.afr_lines.specs.Work.{reply_by};
+ghost use Rattle.afr_model.specs.Attempts.{earlier, first_reply};
+ghost use Rattle.afr_trace_safe.specs.Acknowledged.{begins_well, is_acknowledged, says_ok};
+
+use afr_base::ActorId;
+use afr_lines::{Line, Reply};
+
+fn line_at(log: &[Line], position: usize) -> Option<&Line>
+    ensures { option_copied result ≡ from_oldest position (reverse log.now) }
+{
+    item_at(log, position)
+}
+
+fn item_at(log: &[Line], position: usize) -> Option<&Line>
+    ensures { option_copied result ≡ slice_get log.now position }
+{
+    log.get(position)
+}
+
+fn reply_by(a: ActorId, line: &Line) -> Option<&Reply>
+    ensures { option_copied result ≡ reply_by a.0 line.now }
+{
+    match line {
+        Line::End { actor, reply } => { if *actor == a { Some(reply) } else { None } }
+        Line::Ask { .. } => None,
+        Line::Begin { .. } => None,
+        Line::HealBegin { .. } => None,
+        Line::HealEnd { .. } => None,
+        Line::Event { .. } => None,
+    }
+}
+
+/// The reply of the actor's first End line after a position.
+fn first_reply(log: &[Line], a: ActorId, attempt: usize) -> Option<&Reply>
+    ensures { option_copied result ≡ first_reply a.0 attempt (reverse log.now) }
+{
+    let mut found = None;
+    let mut position = 0;
+    for line in log {
+        found = if attempt < position {
+            earlier(found, reply_by(a, line))
+        } else {
+            None
+        };
+        position += 1;
+    }
+    found
+}
+
+/// The older of two replies, where there is one.
+fn earlier<'a>(first: Option<&'a Reply>, later: Option<&'a Reply>) -> Option<&'a Reply>
+    ensures { option_copied result ≡ earlier (option_copied first.entry) (option_copied later.entry) }
+{
+    match first {
+        Some(reply) => Some(reply),
+        None => later,
+    }
+}
+
+/// Whether an attempt begins at the position, and its actor's first End line after it says ok.
+pub(crate) fn is_acknowledged(log: &[Line], attempt: usize) -> bool
+    ensures { result ≡ is_acknowledged (reverse log.now) attempt }
+{
+    match line_at(log, attempt) {
+        Some(line) => begins_well(line, log, attempt),
+        None => false,
+    }
+}
+
+fn begins_well(line: &Line, log: &[Line], attempt: usize) -> bool
+    ensures { result ≡ begins_well (Some line.now) (reverse log.now) attempt }
+{
+    match line {
+        Line::Begin { actor, .. } => says_ok(first_reply(log, *actor, attempt)),
+        _ => false,
+    }
+}
+
+fn says_ok(reply: Option<&Reply>) -> bool
+    ensures { result ≡ says_ok (option_copied reply.entry) }
+{
+    match reply {
+        Some(Reply::Ok(_)) => true,
+        _ => false,
+    }
+}
