@@ -45,7 +45,7 @@ none_there p at [] there e = get_or_from_slice_get p.healers at [] [] there
 none_there p at (b ∷ more) there e = absurd (omega (arith, e))
 
 pub length_there : (p : Plan) (at : ℕ) (one : List BrickId) → slice_get p.healers at ≡ Some one → slice_index_or p.healers at [] ≡ [] → length one ≡ 0
-length_there p at one there e = ap length (sym (get_or_from_slice_get p.healers at [] one there) ∙ e)
+length_there p at one there e = ap length (sym (get_or_from_slice_get p.healers at one [] there) ∙ e)
 
 -- ---- tasks
 -- there are at most as many as works that ended

@@ -95,7 +95,7 @@ pub returns-clause-recorded : goal.returns-clause-recorded
 returns-clause-recorded g c = elim c.match-live_form_of.branch [
   | in-Some w ↦ λ ended plain. let r = w.read_and_run-status.ensures in let v = c.every_line.ensures in
       is_recorded _ _ _ _ (run_is_spelled _ _ _ (ended_has _ (λ zero. (r.ok zero).0) (λ seven. (r.unfinished seven).0) (rw w.status-is at ended)) _ (ap (λ (s : State). s.plan) w.volume-is))
-      v.few v.clients v.healers v.turns v.room (plain_right _ plain v.right)
+      v.few v.clients v.healers v.turns v.room (plain_right c.match-live_form_of.volume plain v.right)
   | in-None w ↦ λ ended. absurd (ended_has _ (λ zero. other_status _ _ 0 _ w.answer-status.ensures.whole (λ h. cc) (λ h. cc) (sym w.status-is ∙ zero))
       (λ seven. other_status _ _ 7 _ w.answer-status.ensures.whole (λ h. cc) (λ h. cc) (sym w.status-is ∙ seven)) ended)
 ]

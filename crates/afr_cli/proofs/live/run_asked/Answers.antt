@@ -9,14 +9,14 @@ pub crawl_plan-requires-clause-form : goal.crawl_plan-requires-clause-form
 crawl_plan-requires-clause-form g c = sym c.crawls.ensures ∙ c.if-crawls.true
 
 pub run_live-requires-clause-form : goal.run_live-requires-clause-form
-run_live-requires-clause-form g c = sym c.crawls.ensures ∙ c.if-crawls.false
+run_live-requires-clause-form g c = λ κs within. sym c.crawls.ensures ∙ c.if-crawls.false
 
 -- ---- a crawl
 pub returns-then-crawls-clause-none : goal.returns-then-crawls-clause-none
 returns-then-crawls-clause-none g c = none_crawl _ _ _ (sym c.crawls.ensures ∙ c.if-crawls.true) c.crawl_plan.ensures.none
 
 pub returns-then-crawls-clause-ok : goal.returns-then-crawls-clause-ok
-returns-then-crawls-clause-ok g c = λ e. let ran = c.crawl_plan.ensures.ok e in (ran.0, all_plain _ ran.1.done)
+returns-then-crawls-clause-ok g c = λ e. let ran = c.crawl_plan.ensures.ok e in (ran.0, all_plain c.crawl_plan.new.volume ran.1.done)
 
 pub returns-then-crawls-clause-crawled : goal.returns-then-crawls-clause-crawled
 returns-then-crawls-clause-crawled g c = λ e crawl. let ran = c.crawl_plan.ensures.ok e in (ran.1, ran.2)

@@ -150,7 +150,7 @@ returns-clause-plain g c = elim c.match-form_of.branch [
 ]
 
 pub returns-clause-right : goal.returns-clause-right
-returns-clause-right g c = plain_right _ (returns-clause-plain g c) c.every_line-2.ensures.right
+returns-clause-right g c = plain_right c.match-form_of.volume (returns-clause-plain g c) c.every_line-2.ensures.right
 
 -- ---- the words ask for a check
 pub returns-then-is_check-clause-faulty_part : goal.returns-then-is_check-clause-faulty_part
