@@ -33,7 +33,11 @@ fn what_is_crawled_is_healed(rt: HostRuntime) -> Result<(), Fail> {
 fn a_crawl_that_is_cut_short_is_unfinished(rt: HostRuntime) -> Result<(), Fail> {
     let (status, sink) = live_run(&rt, "crawl", CUT_SHORT, &NoGate)?;
     assert_eq!(rt; status, 7);
-    assert!(rt; sink.taken().starts_with(b"afr replica 3\nlines 60\nc1 2 of 2\n1 write ok\n2 write ok\nh1 1 of 1\n1 round ok\nworkers 0 of 2\nreach"));
+    assert!(rt;
+        sink.taken().starts_with(
+            b"afr replica 3\nlines 60\nc1 2 of 2\n1 write ok\n2 write ok\nh1 1 of 1\n1 round ok\nworkers 0 of 2\nreach"
+        )
+    );
     Ok(())
 }
 

@@ -9,7 +9,8 @@ use afr_volume::Volume;
 use std::alloc::Global;
 use std::test::Fail;
 
-const USAGE: &str = "usage: afr run | trace | info | gen N | live | crawl | record | replay T\n";
+const USAGE: &str =
+    "usage: afr run | trace | info | gen N | live | crawl | record | replay T | check\n";
 
 /// A write and a read of five bytes.
 pub(crate) const PLAN: &str =
@@ -34,7 +35,7 @@ pub(crate) const SHORT: &str =
 const SUMMARY: &str = "gen 1\nlines 79\nok 4\nrefused 0\nsettled 0\nobjects 3\nsplit-brain 0\n";
 
 /// Words, plan, status and text. The plans that stand in plans/ are compared from there, by plans/check.
-const CASES: [(&[&str], &str, u8, &str); 37] = [
+const CASES: [(&[&str], &str, u8, &str); 41] = [
     (&[], PLAN, 2, USAGE),
     (&["help"], "", 2, USAGE),
     (&["run", "x"], PLAN, 2, USAGE),
@@ -55,6 +56,20 @@ const CASES: [(&[&str], &str, u8, &str); 37] = [
         PLAN,
         9,
         "image refused: at 0, code 11 magic\n",
+    ),
+    (&["check", "x"], PLAN, 2, USAGE),
+    (&["check"], PLAN, 0, "check yes: 0 lines\n"),
+    (
+        &["check"],
+        "afr 1\nvolume replica\nfiles 0\nturns 100000\nend\nend\n",
+        11,
+        "check no: line 0, text\n",
+    ),
+    (
+        &["check"],
+        "afr 1\nvolume replica\nfiles 0\nturns 100000\n",
+        3,
+        "plan refused: line 5, code 9 end\n",
     ),
     (&["trace"], PLAN, 0, TRACE),
     (&["info"], PLAN, 0, INFO),

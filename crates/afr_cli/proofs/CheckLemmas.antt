@@ -45,8 +45,8 @@ pub has_few_actors : (plan : Plan) → IsRunnable plan → HasFewActors plan
 has_few_actors plan can = record { clients = can.clients; healers = can.healers }
 
 -- what was found is no stop
-pub within : (found : Finding) (stop : CheckStop) (r : Result Finding CheckStop) → r ≡ Ok found → r ≡ Err stop → ⊥
-within found stop r is stopped = let same : ◌≡◌ {A = Result Finding CheckStop} (Ok found) (Err stop) = sym is ∙ stopped in cc
+pub within : (found : Finding) (stop : CheckStop) → ◌≡◌ {A = Result Finding CheckStop} (Ok found) (Err stop) → ⊥
+within found stop same = cc
 
 -- a status that tells what came of a check is no other
 pub has_status : (r s : ℕ) → (r ≡ 0) ⊎ (r ≡ 11) ⊎ (r ≡ 12) → (r ≡ s) ⊎ (r ≡ 5) ⊎ (r ≡ 6) → r ≡ s

@@ -33,7 +33,10 @@ pub fn push_heal_line(out: &mut String, line: &Line) -> Result<(), NoMemory>
     ensures ok { OnOk result (string_bytes out.new ≡ string_bytes out.old ++ heal_line line.now) }
 {
     let Line::HealEnd {
-        gfid, kind, reply, ..
+        gfid,
+        kind,
+        reply,
+        ..
     } = line
     else {
         return Ok(());

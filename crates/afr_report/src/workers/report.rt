@@ -72,14 +72,7 @@ fn push_crawler(
     ensures ok { OnOk result (string_bytes out.new ≡ string_bytes out.old ++ healer_text plan.now.words 17 (rounds_of plan.now 17) (reverse log.now.items)) }
 {
     let rounds = plan.healers.item(0);
-    push_healer(
-        out,
-        &plan.words,
-        ActorId(FIRST_HEALER),
-        rounds,
-        lists,
-        log,
-    )
+    push_healer(out, &plan.words, ActorId(FIRST_HEALER), rounds, lists, log)
 }
 
 /// Adds how many tasks have ended, of how many items, and the heals of those tasks.

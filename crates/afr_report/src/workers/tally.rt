@@ -69,13 +69,7 @@ fn ends(line: &Line, a: u16) -> usize
     ensures few { result ≤ 1 }
 {
     match line {
-        Line::End { actor, .. } => {
-            if actor.0 == a {
-                1
-            } else {
-                0
-            }
-        }
+        Line::End { actor, .. } => { if actor.0 == a { 1 } else { 0 } }
         _ => 0,
     }
 }
