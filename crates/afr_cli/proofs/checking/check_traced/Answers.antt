@@ -1,5 +1,5 @@
 -- What was found, or that the check is past its limit, told to its end or cut off.
-use Rattle.std.proofs.Common.{◌≡◌, ◌∙◌, ap, drop, ℕ}
+use Rattle.std.proofs.Common.{◌∙◌, ap, drop}
 use Rattle.afr_cli.proofs.CheckLemmas.{few_bricks, has_few_actors, has_status, not_five, stops_at_limit, stops_found, tells_found, tells_limit, within}
 use Rattle.afr_cli.proofs.checking.check_traced.Goals as goal
 
