@@ -9,7 +9,8 @@ use afr_volume::Volume;
 use std::alloc::Global;
 use std::test::Fail;
 
-const USAGE: &str = "usage: afr run | trace | info | gen N | live | crawl | record | replay T | check\n";
+const USAGE: &str =
+    "usage: afr run | trace | info | gen N | live | crawl | record | replay T | check\n";
 
 /// A write and a read of five bytes.
 pub(crate) const PLAN: &str =

@@ -1,9 +1,9 @@
 -- What a check read, a text of it that was cut off, and what a source that tells its bytes is answered with.
-use Rattle.std.proofs.Common.{◌≡◌, ◌∙◌, ◌≤◌, ◌⊎◌, ℕ, List, Option, Some, Result, Ok, Err, drop, length, take, refl, sym, ap, inl, inr, arith}
+use Rattle.std.proofs.Common.{◌≡◌, ◌∙◌, ◌≤◌, ◌⊎◌, ℕ, List, Option, Some, Result, Ok, Err, drop, length, take, sym, ap, inl, inr, arith}
 use Rattle.std.specs.Prelude.{String}
 use Rattle.std.specs.Global.{Global}
 use Rattle.std.specs.Io.KnownBytes.{Appends}
-use Rattle.afr_text.specs.Parts.{AppendsFront, CameMore}
+use Rattle.afr_text.specs.Parts.{AppendsFront}
 use Rattle.afr_law_runnable.specs.Runnable.{IsRunnable}
 use Rattle.afr_plan.specs.declared.plan.Plan.{Plan}
 use Rattle.afr_plan.specs.declared.plan.PlanFault.{PlanFault}
@@ -25,16 +25,8 @@ use Rattle.afr_cli.proofs.ToldLemmas.{all_bytes, more_bytes}
 
 -- ---- what was read
 module _ (left left' : Option (List ℕ)) (bytes part : List ℕ) (len : ℕ) (read : WasRead 16777216 left left' bytes) (whole : IsPlanPart bytes len) (front : part ≡ take len bytes) where
-  pub is_given_trace : (plan : Plan) → Spells part plan → IsGivenTrace left left' plan (drop len bytes)
-  is_given_trace plan spells = record { bytes = bytes; read = read; parts = record { len = len; part = whole; spells = rw front at spells; rest = refl } }
-
   pub is_faulty_part : (fault : PlanFault) → (first_fault part ≡ Some fault) × ((plan : Plan) → Spells part plan → ⊥) → IsPartRefused left left' fault
   is_faulty_part fault (first, none) = inl (record { bytes = bytes; len = len; read = read; part = whole; first = rw front at first; none = rw front at none })
-
--- what was read of it was told
-pub is_checked : (left left' taken taken' : Option (List ℕ)) (plan : Plan) (trace : List ℕ) (status : ℕ) → IsGivenTrace left left' plan trace → IsToldOf plan trace status taken taken'
-    → IsChecked left left' taken taken' status
-is_checked left left' taken taken' plan trace status given told = record { plan = plan; trace = trace; given = given; told = told }
 
 -- ---- what is said of it
 -- a plan that could be run has few bricks and actors
@@ -45,8 +37,8 @@ pub has_few_actors : (plan : Plan) → IsRunnable plan → HasFewActors plan
 has_few_actors plan can = record { clients = can.clients; healers = can.healers }
 
 -- what was found is no stop
-pub within : (found : Finding) (stop : CheckStop) (r : Result Finding CheckStop) → r ≡ Ok found → r ≡ Err stop → ⊥
-within found stop r is stopped = let same : ◌≡◌ {A = Result Finding CheckStop} (Ok found) (Err stop) = sym is ∙ stopped in cc
+pub within : (found : Finding) (stop : CheckStop) → ◌≡◌ {A = Result Finding CheckStop} (Ok found) (Err stop) → ⊥
+within found stop same = cc
 
 -- a status that tells what came of a check is no other
 pub has_status : (r s : ℕ) → (r ≡ 0) ⊎ (r ≡ 11) ⊎ (r ≡ 12) → (r ≡ s) ⊎ (r ≡ 5) ⊎ (r ≡ 6) → r ≡ s

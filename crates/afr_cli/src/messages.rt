@@ -14,7 +14,8 @@ use afr_text::{Sink, write_all};
 use std::alloc::Global;
 
 /// The line that tells how the program is called.
-pub const USAGE: &[u8] = b"usage: afr run | trace | info | gen N | live | crawl | record | replay T | check\n";
+pub const USAGE: &[u8] =
+    b"usage: afr run | trace | info | gen N | live | crawl | record | replay T | check\n";
 
 /// The line that refuses a plan that can't be crawled.
 pub const CRAWL_REFUSED: &[u8] = b"crawl refused: healers\n";

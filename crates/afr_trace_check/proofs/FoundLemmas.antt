@@ -4,16 +4,16 @@ use Rattle.std.proofs.lemmas.List.{length-reverse, reverse-append, reverse-rever
 use Rattle.std.proofs.lemmas.Option.{same_Some}
 use Rattle.afr_lines.specs.Log.{EveryPrefix}
 use Rattle.afr_lines.specs.declared.line.Line.{Line}
-use Rattle.afr_model.specs.Blamed.{AreBlamed, Blames}
-use Rattle.afr_model.specs.Following.{Follows, IsFollowing}
+use Rattle.afr_model.specs.Blamed.{Blames}
+use Rattle.afr_model.specs.Following.{IsFollowing}
 use Rattle.afr_model.specs.Safe.{IsSafe}
 use Rattle.afr_plan.specs.declared.plan.Plan.{Plan}
 use Rattle.afr_trace_build.specs.Built.{Built, End, NoLine, OtherWords, Whole, and_on, built, built_on, end_of}
 use Rattle.afr_trace_build.specs.Filling.{fill}
 use Rattle.afr_trace_build.specs.declared.filling.Filled.{Filled}
 use Rattle.afr_trace_build.specs.declared.filling.Filled.TheVariants as filled
-use Rattle.afr_trace_check.specs.Honest.{AreHonestBySums, IsHonestBySums}
-use Rattle.afr_trace_check.specs.Right.{BreaksFirst, Breaks, Ends, EndsBy, IsFound, IsFoundIn, IsRight, IsRightAlways}
+use Rattle.afr_trace_check.specs.Honest.{IsHonestBySums}
+use Rattle.afr_trace_check.specs.Right.{BreaksFirst, Breaks, Ends, EndsBy, IsFoundIn, IsRight, IsRightAlways}
 use Rattle.afr_trace_check.specs.declared.finding.Finding.TheVariants as finding
 use Rattle.afr_trace_check.specs.declared.finding.Rule.{Rule}
 use Rattle.afr_trace_check.specs.declared.finding.Rule.TheVariants as rule
@@ -192,7 +192,7 @@ module _ (p : Plan) (l : Line) (items more more_slice : List Line) (safe : Bool)
       let log : reverse more ≡ l ∷ reverse items = log_more items more l f in (
         log,
         subst (λ (xs : List Line). EveryPrefix (IsRight p) xs) (sym log)
-        (right_next p l (reverse items) all keeps.follows keeps.honest keeps.blamed (subst (λ (xs : List Line). IsSafe p xs) same_log (told.0 is_safe))),
+            (right_next p l (reverse items) all keeps.follows keeps.honest keeps.blamed (subst (λ (xs : List Line). IsSafe p xs) same_log (told.0 is_safe))),
       )
 
 -- a text that stands for a line

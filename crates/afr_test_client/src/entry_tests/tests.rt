@@ -93,23 +93,6 @@ fn a_name_is_locked_at_once_in_the_root(rt: HostRuntime) {
     );
 }
 
-#[test]
-fn the_name_is_read_before_the_attempt(rt: HostRuntime) {
-    let next = locked(rt.alloc(), EntryJob::Mkdir { name: NAME }).and_then(|m| m.next(6).ok());
-    assert!(rt;
-        matches!(
-            next,
-            Some(Next::Ask(
-                BrickId(0),
-                Request::ReadName {
-                    gfid: ROOT,
-                    name: NAME
-                }
-            ))
-        )
-    );
-}
-
 /// A file is made on every brick: the number that its Begin line gives, whether its operation carries it, and its end.
 fn makes_a_file(alloc: Global) -> Option<(Next, bool, Next)> {
     let mut machine = locked(alloc, EntryJob::Create { name: NAME })?;
@@ -146,49 +129,11 @@ fn a_file_takes_its_number_from_its_begin_line(rt: HostRuntime) {
 }
 
 #[test]
-fn a_name_that_is_there_is_not_made(rt: HostRuntime) {
-    let job = EntryJob::Mkdir { name: NAME };
-    let end = end_after(rt.alloc(), job, entry(What::File));
-    assert!(rt; matches!(end, Some(Next::End(Reply::Exists))));
-}
-
-#[test]
 fn a_name_that_is_not_there_is_not_unlinked(rt: HostRuntime) {
     let job = EntryJob::Unlink { name: NAME };
     let end = end_after(rt.alloc(), job, Answer::Entry(None));
     assert!(rt; matches!(end, Some(Next::End(Reply::NoEntry))));
 }
-
-#[test]
-fn a_directory_is_not_unlinked(rt: HostRuntime) {
-    let job = EntryJob::Unlink { name: NAME };
-    let end = end_after(rt.alloc(), job, entry(What::Dir));
-    assert!(rt; matches!(end, Some(Next::End(Reply::IsDir))));
-}
-
-#[test]
-fn a_lost_answer_for_the_name_fails(rt: HostRuntime) {
-    let job = EntryJob::Unlink { name: NAME };
-    let end = end_after(rt.alloc(), job, Answer::NotConnected);
-    assert!(rt; matches!(end, Some(Next::End(Reply::Failed))));
-}
-
-/// What follows a path to a file.
-fn in_a_file(alloc: Global) -> Option<Next> {
-    let mut machine = on_three(alloc, &[NameId(0)], EntryJob::Create { name: NAME })?;
-    hears_one(&mut machine, seen());
-    hears_one(&mut machine, seen());
-    hears_one(&mut machine, seen());
-    hears_one(&mut machine, entry(What::File));
-    machine.next(4).ok()
-}
-
-#[test]
-fn a_file_has_no_names(rt: HostRuntime) {
-    assert!(rt; matches!(in_a_file(rt.alloc()), Some(Next::End(Reply::NotDir))));
-}
-
-const CHILD: Gfid = Gfid(40);
 
 /// The name leads to a directory, which is locked wherever the bricks answer so.
 fn child_locked(alloc: Global, locks: [Answer; 3]) -> Option<EntryMachine> {
@@ -198,29 +143,6 @@ fn child_locked(alloc: Global, locks: [Answer; 3]) -> Option<EntryMachine> {
         hears_one(&mut machine, answer);
     }
     Some(machine)
-}
-
-#[test]
-fn the_whole_child_is_locked_next(rt: HostRuntime) {
-    let next = locked(rt.alloc(), EntryJob::Rmdir { name: NAME }).and_then(|mut m| {
-        hears_one(&mut m, entry(What::Dir));
-        m.next(7).ok()
-    });
-    assert!(rt;
-        matches!(
-            next,
-            Some(Next::Ask(
-                BrickId(0),
-                Request::Lock {
-                    area: Area::Name {
-                        gfid: CHILD,
-                        name: None
-                    },
-                    ..
-                }
-            ))
-        )
-    );
 }
 
 /// The end of a removal whose child has these names.
@@ -244,34 +166,4 @@ fn removes_with(alloc: Global, names: NameList) -> Option<Next> {
 fn an_empty_directory_is_removed(rt: HostRuntime) {
     let end = removes_with(rt.alloc(), List::new(rt.alloc()));
     assert!(rt; matches!(end, Some(Next::End(Reply::Ok(Good::Done)))));
-}
-
-#[test]
-fn a_directory_with_a_name_stays(rt: HostRuntime) {
-    let mut names: NameList = List::new(rt.alloc());
-    let inner = Entry {
-        gfid: Gfid(50),
-        what: What::File,
-    };
-    assert!(rt; names.push((NameId(7), inner)).is_ok());
-    let end = removes_with(rt.alloc(), names);
-    assert!(rt; matches!(end, Some(Next::End(Reply::NotEmpty))));
-}
-
-#[test]
-fn a_child_that_one_brick_locks_has_no_quorum(rt: HostRuntime) {
-    let locks = [Answer::Granted, Answer::Failed, Answer::Failed];
-    let end = child_locked(rt.alloc(), locks).and_then(|mut m| {
-        hears_one(&mut m, Answer::Done);
-        all_done(&mut m);
-        m.next(20).ok()
-    });
-    assert!(rt; matches!(end, Some(Next::End(Reply::NoQuorum))));
-}
-
-#[test]
-fn a_file_is_not_removed_as_a_directory(rt: HostRuntime) {
-    let job = EntryJob::Rmdir { name: NAME };
-    let end = end_after(rt.alloc(), job, entry(What::File));
-    assert!(rt; matches!(end, Some(Next::End(Reply::NotDir))));
 }

@@ -122,12 +122,6 @@ fn a_stat_tells_what_the_looks_showed(rt: HostRuntime) {
     );
 }
 
-#[test]
-fn a_file_has_no_names_to_list(rt: HostRuntime) {
-    let machine = in_the_root(rt.alloc(), LookupJob::Ls, &ReadRule::new(first));
-    assert!(rt; matches!(next_of(machine), Some(Next::End(Reply::NotDir))));
-}
-
 /// A refused read of the file's value: the last of these lines.
 fn refused(alloc: Global) -> Option<Next> {
     let rule = ReadRule::new(first);

@@ -1,7 +1,7 @@
 //! Renames of a file in the root, to their ends.
 use afr_base::{AllMarks, BrickId, Gfid, NameId, Shape, What};
 use afr_client_entry::{RenameMachine, a_rename_keeps_the_discipline, a_rename_reads_good_copies};
-use afr_lines::{Answer, Area, Good, Heard, Next, Reply, Request};
+use afr_lines::{Answer, Good, Heard, Next, Reply, Request};
 use afr_object::{Change, Entry, Load, View};
 use afr_rule::ReadRule;
 use afr_rule::shipped::first;
@@ -136,90 +136,6 @@ fn the_name_is_read_where_the_rule_picks(rt: HostRuntime) {
     assert!(rt; matches!(picks(rt.alloc()), Some(BrickId(0))));
 }
 
-#[test]
-fn a_directory_is_not_renamed(rt: HostRuntime) {
-    let end = found(rt.alloc(), What::Dir).and_then(|m| m.next(4).ok());
-    assert!(rt; matches!(end, Some(Next::End(Reply::IsDir))));
-}
-
-#[test]
-fn the_new_name_is_locked_first(rt: HostRuntime) {
-    let next = found(rt.alloc(), What::File).and_then(|m| m.next(4).ok());
-    assert!(rt;
-        matches!(
-            next,
-            Some(Next::Ask(
-                BrickId(0),
-                Request::Lock {
-                    area: Area::Name {
-                        gfid: ROOT,
-                        name: Some(NEW)
-                    },
-                    ..
-                }
-            ))
-        )
-    );
-}
-
-/// The attempt that follows, once this is told of the new name.
-fn after_new_name(alloc: Global, told: Answer) -> Option<Next> {
-    let mut machine = found(alloc, What::File)?;
-    told_under_locks(&mut machine, told);
-    machine.ready().ok()?;
-    machine.next(11).ok()
-}
-
-#[test]
-fn the_new_name_leads_to_the_file(rt: HostRuntime) {
-    let begin = after_new_name(rt.alloc(), Answer::Entry(None));
-    assert!(rt;
-        matches!(
-            begin,
-            Some(Next::Begin(Change::Make {
-                dir: ROOT,
-                name: NEW,
-                gfid: FILE,
-                what: What::File
-            }))
-        )
-    );
-}
-
-/// The end of a rename whose new name is there.
-fn end_where_it_is_there(alloc: Global) -> Option<Next> {
-    let mut machine = found(alloc, What::File)?;
-    told_under_locks(&mut machine, entry(Gfid(41), What::File));
-    all_done(&mut machine);
-    machine.next(20).ok()
-}
-
-#[test]
-fn a_name_that_is_there_is_not_replaced(rt: HostRuntime) {
-    let end = end_where_it_is_there(rt.alloc());
-    assert!(rt; matches!(end, Some(Next::End(Reply::Exists))));
-}
-
-#[test]
-fn the_old_name_is_locked_once_the_new_one_stands(rt: HostRuntime) {
-    let next = made(rt.alloc()).and_then(|m| m.next(30).ok());
-    assert!(rt;
-        matches!(
-            next,
-            Some(Next::Ask(
-                BrickId(0),
-                Request::Lock {
-                    area: Area::Name {
-                        gfid: ROOT,
-                        name: Some(OLD)
-                    },
-                    ..
-                }
-            ))
-        )
-    );
-}
-
 /// The old name is removed: the attempt, and whether its operation carries it.
 fn removes_the_old_name(alloc: Global) -> Option<(Next, bool)> {
     let mut machine = made(alloc)?;
@@ -252,18 +168,6 @@ fn the_old_name_is_removed(rt: HostRuntime) {
 fn a_file_is_renamed(rt: HostRuntime) {
     let end = end_after(rt.alloc(), entry(FILE, What::File));
     assert!(rt; matches!(end, Some(Next::End(Reply::Ok(Good::Done)))));
-}
-
-#[test]
-fn a_name_that_leads_elsewhere_by_now_stays(rt: HostRuntime) {
-    let end = end_after(rt.alloc(), entry(Gfid(41), What::File));
-    assert!(rt; matches!(end, Some(Next::End(Reply::Half))));
-}
-
-#[test]
-fn a_name_that_is_gone_leaves_it_half(rt: HostRuntime) {
-    let end = end_after(rt.alloc(), Answer::Entry(None));
-    assert!(rt; matches!(end, Some(Next::End(Reply::Half))));
 }
 
 /// How many bricks the register of a rename has, once its new name stands.

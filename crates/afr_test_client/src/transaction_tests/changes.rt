@@ -1,6 +1,6 @@
 //! What a change locks, and the number of what it makes.
 use crate::transaction_tests::lines::{FILE, begins, tells_three};
-use afr_base::{AllMarks, BrickId, Gfid, NameId, Shape, What};
+use afr_base::{AllMarks, BrickId, NameId, Shape, What};
 use afr_client_transaction::{Transaction, has_area};
 use afr_discipline::fresh;
 use afr_lines::{Next, Request, Told};
@@ -16,37 +16,6 @@ fn a_write_of_no_bytes_has_no_area(rt: HostRuntime) {
     };
     assert!(rt; !has_area(&change));
     assert!(rt; has_area(&Change::Cut { gfid: FILE, len: 5 }));
-}
-
-/// The number of a new file whose Begin line is at this position.
-fn number_at(alloc: Global, at: u32) -> Option<Gfid> {
-    let shape = Shape {
-        n: 3,
-        arbiter: false,
-    };
-    let change = Change::Make {
-        dir: FILE,
-        name: NameId(1),
-        gfid: Gfid(0),
-        what: What::File,
-    };
-    let dir = Told::Seen(View {
-        what: What::Dir,
-        len: 0,
-        marks: AllMarks::zero(),
-    });
-    let mut transaction = Transaction::new(shape, change);
-    tells_three(&mut transaction, [Told::Granted; 3]);
-    tells_three(&mut transaction, [dir; 3]);
-    match transaction.next(alloc, at) {
-        Ok(Next::Begin(Change::Make { gfid, .. })) => Some(gfid),
-        _ => None,
-    }
-}
-
-#[test]
-fn a_new_file_takes_its_number_from_its_begin_line(rt: HostRuntime) {
-    assert!(rt; matches!(number_at(rt.alloc(), 40), Some(Gfid(42))));
 }
 
 /// What goes with the request after all three bricks have done pre-op.

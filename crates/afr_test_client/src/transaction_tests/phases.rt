@@ -1,32 +1,6 @@
 //! The phases of a transaction, and what a brick's refusal makes of them.
 use crate::transaction_tests::lines::{asks, begins, cuts, is_acknowledged, tells, tells_three};
-use afr_base::ActorId;
 use afr_lines::{Request, Told};
-
-#[test]
-fn a_held_lock_is_asked_again(rt: HostRuntime) {
-    let mut transaction = cuts();
-    assert!(rt;
-        matches!(
-            asks(rt.alloc(), &transaction, 0),
-            Some(Request::Lock { .. })
-        )
-    );
-    tells(&mut transaction, Told::Held(ActorId(1)));
-    assert!(rt;
-        matches!(
-            asks(rt.alloc(), &transaction, 0),
-            Some(Request::Lock { .. })
-        )
-    );
-    tells(&mut transaction, Told::Granted);
-    assert!(rt;
-        matches!(
-            asks(rt.alloc(), &transaction, 1),
-            Some(Request::Lock { .. })
-        )
-    );
-}
 
 #[test]
 fn a_cut_that_all_bricks_carry_out_is_acknowledged(rt: HostRuntime) {
@@ -56,19 +30,6 @@ fn a_cut_that_all_bricks_carry_out_is_acknowledged(rt: HostRuntime) {
     );
     tells_three(&mut transaction, [Told::Done; 3]);
     assert!(rt; transaction.is_over() && is_acknowledged(&transaction));
-}
-
-#[test]
-fn a_brick_that_refuses_pre_op_is_left_out(rt: HostRuntime) {
-    let mut transaction = cuts();
-    begins(&mut transaction);
-    tells_three(&mut transaction, [Told::Failed, Told::Done, Told::Done]);
-    assert!(rt;
-        matches!(
-            asks(rt.alloc(), &transaction, 1),
-            Some(Request::Apply { .. })
-        )
-    );
 }
 
 #[test]

@@ -1,25 +1,7 @@
 //! What a transaction ends with.
-use crate::transaction_tests::lines::{accusing, begins, clean, cuts, tells_three};
+use crate::transaction_tests::lines::{accusing, begins, cuts, tells_three};
 use afr_client_transaction::TransactionOutcome;
 use afr_lines::{Next, Reply, Told};
-
-#[test]
-fn two_locks_that_fail_are_no_quorum(rt: HostRuntime) {
-    let mut transaction = cuts();
-    tells_three(
-        &mut transaction,
-        [Told::NotConnected, Told::Failed, Told::Granted],
-    );
-    assert!(rt; matches!(transaction.outcome(), TransactionOutcome::NoQuorum));
-}
-
-#[test]
-fn one_copy_of_three_is_too_few(rt: HostRuntime) {
-    let mut transaction = cuts();
-    tells_three(&mut transaction, [Told::Granted; 3]);
-    tells_three(&mut transaction, [clean(), Told::NoObject, Told::NoObject]);
-    assert!(rt; matches!(transaction.outcome(), TransactionOutcome::FewCopies));
-}
 
 #[test]
 fn copies_that_are_all_accused_are_a_split_brain(rt: HostRuntime) {

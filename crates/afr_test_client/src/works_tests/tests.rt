@@ -102,12 +102,6 @@ fn a_client_is_idle_at_first(rt: HostRuntime) {
     assert!(rt; work.is_over());
 }
 
-#[test]
-fn an_unlink_of_no_name_has_no_machine(rt: HostRuntime) {
-    let path = List::new(rt.alloc());
-    assert!(rt; !has_machine(&Command::Unlink { path }));
-}
-
 /// What a stat of the root asks first, and what it answers.
 fn stat_of_the_root(alloc: Global) -> Option<(Next, Next)> {
     let path = List::new(alloc);
@@ -246,16 +240,6 @@ fn made(alloc: Global) -> Option<(bool, Next)> {
     let carried = carries_the_directory(&work);
     let next = finished(&mut work)?;
     Some((carried, next))
-}
-
-#[test]
-fn a_directory_is_made_at_every_brick(rt: HostRuntime) {
-    assert!(rt;
-        matches!(
-            made(rt.alloc()),
-            Some((true, Next::End(Reply::Ok(Good::Done))))
-        )
-    );
 }
 
 fn the_file() -> Answer {

@@ -84,29 +84,6 @@ fn a_write_past_the_limit_asks_nobody(rt: HostRuntime) {
     assert!(rt; matches!(next_of(machine), Some(Next::End(Reply::TooLarge))));
 }
 
-/// A write of no bytes, after its walk.
-fn of_nothing(alloc: Global) -> Option<Next> {
-    let mut machine = write_of(alloc, 7, 0)?;
-    finds_the_file(&mut machine);
-    machine.next(9).ok()
-}
-
-#[test]
-fn a_write_of_nothing_ends_after_its_walk(rt: HostRuntime) {
-    assert!(rt;
-        matches!(
-            of_nothing(rt.alloc()),
-            Some(Next::End(Reply::Ok(Good::Done)))
-        )
-    );
-}
-
-#[test]
-fn a_directory_has_no_bytes_to_cut(rt: HostRuntime) {
-    let machine = on_three(rt.alloc(), &[], WriteJob::Cut { len: 1 });
-    assert!(rt; matches!(next_of(machine), Some(Next::End(Reply::IsDir))));
-}
-
 #[test]
 fn an_attribute_of_the_root_is_locked_at_once(rt: HostRuntime) {
     let job = WriteJob::SetAttr {

@@ -1,5 +1,5 @@
 -- What was found, or that the check is past its limit, told to its end or cut off.
-use Rattle.std.proofs.Common.{◌≡◌, ◌∙◌, ap, drop, ℕ}
+use Rattle.std.proofs.Common.{◌∙◌, ap, drop}
 use Rattle.afr_cli.proofs.CheckLemmas.{few_bricks, has_few_actors, has_status, not_five, stops_at_limit, stops_found, tells_found, tells_limit, within}
 use Rattle.afr_cli.proofs.checking.check_traced.Goals as goal
 
@@ -13,13 +13,13 @@ pub returns-in-Ok-clause-told : goal.returns-in-Ok-clause-told
 returns-in-Ok-clause-told g c = λ ended.
     let back = c.split_at.ensures.back ∙ ap (drop c.args.traced.now.plan_len) c.deref.ensures.value in
     let status = rw c.in-Ok.found-is at (has_status _ _ ended c.tell_finding.ensures.few) in
-    tells_found _ _ _ _ c.in-Ok.found (λ past. within _ _ _ c.in-Ok.is (c.in-Ok.ensures.limit.1 (rw back past))) (rw back at c.in-Ok.ensures.ok) _ status (rw c.in-Ok.found-is at (c.tell_finding.ensures.told (has_status _ _ ended c.tell_finding.ensures.few)))
+    tells_found _ _ _ _ c.in-Ok.found (λ past. within _ _ (c.in-Ok.ensures.limit.1 (rw back past))) (rw back at c.in-Ok.ensures.ok) _ status (rw c.in-Ok.found-is at (c.tell_finding.ensures.told (has_status _ _ ended c.tell_finding.ensures.few)))
 
 pub returns-in-Ok-clause-write : goal.returns-in-Ok-clause-write
 returns-in-Ok-clause-write g c = λ five.
     let back = c.split_at.ensures.back ∙ ap (drop c.args.traced.now.plan_len) c.deref.ensures.value in
     let cut = rw c.in-Ok.found-is at (c.tell_finding.ensures.write five) in
-    (cut.0, stops_found _ _ _ _ c.in-Ok.found (λ past. within _ _ _ c.in-Ok.is (c.in-Ok.ensures.limit.1 (rw back past))) (rw back at c.in-Ok.ensures.ok) cut.1)
+    (cut.0, stops_found _ _ _ _ c.in-Ok.found (λ past. within _ _ (c.in-Ok.ensures.limit.1 (rw back past))) (rw back at c.in-Ok.ensures.ok) cut.1)
 
 pub returns-in-Err-Limit-clause-told : goal.returns-in-Err-Limit-clause-told
 returns-in-Err-Limit-clause-told g c = λ ended.

@@ -1,5 +1,5 @@
 -- Why there is no plan part, and that the plan could be run.
-use Rattle.std.proofs.Common.{◌≡◌, ◌∙◌, ap, take, drop, ℕ}
+use Rattle.std.proofs.Common.{◌∙◌, ap, take}
 use Rattle.afr_cli.proofs.CheckLemmas.{is_faulty_part}
 use Rattle.afr_cli.proofs.checking.read_traced.Goals as goal
 

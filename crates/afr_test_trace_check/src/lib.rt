@@ -1,0 +1,5 @@
+//! Tests of what is found of traces.
+#![tactic(auto)]
+
+#[cfg(test)]
+mod tests;

@@ -1,4 +1,0 @@
-use Rattle.afr_test_volume.proofs.tests.set_up.Goals as goal
-
-pub set_up-requires : goal.set_up-requires
-set_up-requires c = record { runs = c.every_spelled_plan_runs.ensures.runs _ _ c.in-Ok.ensures.read }
