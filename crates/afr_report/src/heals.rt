@@ -71,7 +71,10 @@ pub fn push_heal_line(out: &mut String, told: ToldLine<'_>) -> Result<(), NoMemo
         ToldLine::Kept(line) => push_kept_heal(out, line),
         ToldLine::HealBegun { .. } => Ok(()),
         ToldLine::HealEnded {
-            gfid, kind, end, ..
+            gfid,
+            kind,
+            end,
+            ..
         } => push_ended_heal(out, gfid, kind, &end.reply()),
     }
 }
