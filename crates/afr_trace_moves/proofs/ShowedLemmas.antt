@@ -43,7 +43,8 @@ kept_entry p a log k line read low here is =
     ∙ ap (λ (t : Table). entry_at read.dir read.name t) (held_at p log k read.brick.0 low)
 
 pub showed_is : (p : Plan) (a : ℕ) (log : List Line) (k : ℕ) (line : Line) (read : NameRead) (g : Gfid) (what : What) (entry : Option Entry) (test : Bool) → k < length log → slice_get log k ≡ Some line → read_by a line ≡ Some read
-    → entry ≡ entry_shown (held_before p (reverse log)) k (from_oldest k (reverse log)) → (test ≡ true) ↔ (entry ≡ Some (record { gfid = g; what = what })) → (test ≡ true) ↔ Showed p (reverse (take k log)) g what (Some read)
+    → entry ≡ entry_shown (held_before p (reverse log)) k (from_oldest k (reverse log)) → (test ≡ true) ↔ (entry ≡ Some (record { gfid = g; what = what })) → (test ≡ true) ↔ Showed p (reverse (take k log)) g what (read_by a line)
 showed_is p a log k line read g what entry test low here is kept k2 =
-    entry_says read.dir read.name (copy_at read.dir (holds p (reverse (take k log)) read.brick.0)) (record { gfid = g; what = what }) test
-    (subst (λ (o : Option Entry). (test ≡ true) ↔ (o ≡ Some (record { gfid = g; what = what }))) (kept ∙ kept_entry p a log k line read low here is) k2)
+    subst (λ (r : Option NameRead). (test ≡ true) ↔ Showed p (reverse (take k log)) g what r) (sym is)
+    (entry_says read.dir read.name (copy_at read.dir (holds p (reverse (take k log)) read.brick.0)) (record { gfid = g; what = what }) test
+    (subst (λ (o : Option Entry). (test ≡ true) ↔ (o ≡ Some (record { gfid = g; what = what }))) (kept ∙ kept_entry p a log k line read low here is) k2))

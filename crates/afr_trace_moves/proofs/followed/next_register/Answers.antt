@@ -10,7 +10,7 @@ pub returns-then-not-is_of-clause-ok : goal.returns-then-not-is_of-clause-ok
 returns-then-not-is_of-clause-ok c = other_register c.args.plan.now c.args.a.0 c.args.line.now (reverse c.args.older.now) c.args.register (sym c.is_of.ensures ∙ c.if-not-is_of.true) c.requires.was
 
 pub noted-requires : goal.noted-requires
-noted-requires c = rw c.requires.was.shape c.requires.few
+noted-requires c = record { few = rw c.requires.was.shape c.requires.few }
 
 pub returns-clause-ok : goal.returns-clause-ok
 returns-clause-ok c =

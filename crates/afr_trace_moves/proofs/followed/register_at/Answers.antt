@@ -7,7 +7,7 @@ use Rattle.afr_model_moves.proofs.Followed.{force_is}
 use Rattle.afr_trace_moves.proofs.followed.register_at.Goals as goal
 
 pub in_force-requires : goal.in_force-requires
-in_force-requires c = rw c.register_of-register.ensures.shape c.requires.few
+in_force-requires c = record { few = rw c.register_of-register.ensures.shape c.requires.few }
 
 pub returns-clause-stands : goal.returns-clause-stands
 returns-clause-stands c =
