@@ -14,7 +14,7 @@ use std::test::Fail;
 
 /// The lines so far, and their tally.
 #[derive(Drop)]
-struct Built {
+struct Taken {
     tally: Tally,
     log: Vec<Line>,
 }
@@ -70,23 +70,23 @@ fn add(
 
 /// One more line.
 fn take(
-    built: &mut Built,
+    taken: &mut Taken,
     alloc: Global,
     plan: &Plan,
     spelled: &SpelledLine<'_>,
 ) -> Result<(), Fail>
     requires shape { plan.now.shape.n ≤ 5 }
-    requires was { IsTally plan.now (reverse built.old.log.items) built.old.tally }
-    ensures { OnOk result (IsTally plan.now (reverse built.new.log.items) built.new.tally) }
+    requires was { IsTally plan.now (reverse taken.old.log.items) taken.old.tally }
+    ensures { OnOk result (IsTally plan.now (reverse taken.new.log.items) taken.new.tally) }
 {
-    if built.log.len() >= 2_000 {
+    if taken.log.len() >= 2_000 {
         return Err("too many lines".into());
     }
     let filled = filled(
         alloc,
-        &built.tally,
+        &taken.tally,
         plan,
-        built.log.as_slice(),
+        taken.log.as_slice(),
         &spelled.line,
         spelled.contents,
     );
@@ -97,31 +97,31 @@ fn take(
         return Err("an unknown actor or brick".into());
     }
     add(
-        &mut built.tally,
+        &mut taken.tally,
         alloc,
         plan,
-        built.log.as_slice(),
+        taken.log.as_slice(),
         &line,
     )?;
-    built.log.push(line)?;
+    taken.log.push(line)?;
     Ok(())
 }
 
-fn nothing(alloc: Global, plan: &Plan) -> Result<Built, Fail>
+fn nothing(alloc: Global, plan: &Plan) -> Result<Taken, Fail>
     requires shape { plan.now.shape.n ≤ 5 }
-    ensures { IfOk result (λ b. IsTally plan.now (reverse b.log.items) b.tally) }
+    ensures { IfOk result (λ t. IsTally plan.now (reverse t.log.items) t.tally) }
 {
     let Ok(tally) = Tally::new(alloc, plan) else {
         return Err("no memory".into());
     };
-    Ok(Built {
+    Ok(Taken {
         tally,
         log: Vec::new(alloc),
     })
 }
 
 /// The log of a trace, each of whose lines stands for one.
-pub fn built(alloc: Global, plan: &Plan, text: &str) -> Result<Vec<Line>, Fail>
+pub fn log_of(alloc: Global, plan: &Plan, text: &str) -> Result<Vec<Line>, Fail>
     requires shape { plan.now.shape.n ≤ 5 }
 {
     let Ok(trace) = read_trace(alloc, plan, text.as_bytes()) else {
@@ -130,9 +130,9 @@ pub fn built(alloc: Global, plan: &Plan, text: &str) -> Result<Vec<Line>, Fail>
     if trace.broken {
         return Err("a line isn't read".into());
     }
-    let mut built = nothing(alloc, plan)?;
+    let mut taken = nothing(alloc, plan)?;
     for i in 0..trace.lines.len() {
-        take(&mut built, alloc, plan, &trace.lines[i])?;
+        take(&mut taken, alloc, plan, &trace.lines[i])?;
     }
-    Ok(built.log)
+    Ok(taken.log)
 }

@@ -1,4 +1,4 @@
-//! Tests of the judges of traces: the check of a whole trace, and how far a log keeps the discipline.
+//! Tests of the judges of traces: what the check finds, and how far a log keeps the discipline.
 #![tactic(auto)]
 
 #[cfg(test)]
@@ -7,3 +7,5 @@ mod built;
 mod tests;
 #[cfg(test)]
 mod worked;
+#[cfg(test)]
+mod worked_tests;

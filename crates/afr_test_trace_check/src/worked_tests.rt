@@ -1,6 +1,6 @@
 //! Worked traces are right whole and keep the discipline; a changed line is found, with the rule that it breaks.
 
-use crate::built::{built, ended_by, plan_of};
+use crate::built::{ended_by, log_of, plan_of};
 use crate::worked::{lost_answer, lost_answer_trace, write_and_read, write_and_read_trace};
 use afr_trace_check::{CheckStop, Finding, Rule, check};
 use afr_trace_moves::{first_unlawful, makes_new_alone};
@@ -44,7 +44,7 @@ fn a_changed_line_is_found_with_its_rule(rt: HostRuntime) -> Result<(), Fail> {
         (31, "31 c1 b0 read f1[0,5) absent", Rule::Honest),
         (15, "15 c1 end ok", Rule::Safe),
         (0, "0 c1 b0 look g1", Rule::Text),
-        (31, "31 c1 b0 read f1[1,6) ok", Rule::Follows),
+        (3, "3 c1 b0 name f1/f1 ok", Rule::Follows),
     ] {
         let trace = ended_by(rt.alloc(), write_and_read_trace(), line as usize, text)?;
         let found = found(rt.alloc(), write_and_read(), trace.as_str())?;
@@ -63,7 +63,7 @@ fn a_plan_of_long_files_is_past_the_limit(rt: HostRuntime) -> Result<(), Fail> {
 /// Whether the first line that breaks the discipline is the one at this position, and nothing is made but what is new.
 fn breaks_at(alloc: Global, plan: &str, trace: &str, at: usize) -> Result<bool, Fail> {
     let plan = plan_of(alloc, plan)?;
-    let log = built(alloc, &plan, trace)?;
+    let log = log_of(alloc, &plan, trace)?;
     let first = first_unlawful(alloc, &plan, log.as_slice());
     Ok(makes_new_alone(log.as_slice()) && first == Ok(at))
 }
