@@ -1,11 +1,13 @@
 -- How many line feeds a text has, and how many lines are read of it.
-use Rattle.std.proofs.Common.{◌≡◌, ◌∙◌, ℕ, zero, suc, ◌+◌, ◌<◌, ◌≤◌, ◌==◌, Bool, true, false, List, [], ◌∷◌, Option, Some, None, length, drop, get_or, reverse, refl, sym, ap, arith, add-one, if◌then◌else◌}
+use Rattle.std.proofs.Common.{◌≡◌, ◌∙◌, ℕ, zero, suc, ◌+◌, ◌<◌, ◌≤◌, ◌==◌, Bool, true, false, List, [], ◌∷◌, Option, Some, None, length, drop, get_or, map, reverse, refl, sym, ap, arith, add-one, if◌then◌else◌}
 use Rattle.std.proofs.lemmas.List.{length-reverse}
-use Rattle.afr_plan.specs.TextLines.{Text, text_of, with_byte}
+use Rattle.afr_plan.specs.TextLines.{text_of, with_byte}
 use Rattle.afr_plan.specs.declared.plan.Plan.{Plan}
+use Rattle.afr_trace_read.specs.Seen.{seen_line}
 use Rattle.afr_trace_read.specs.Reading.{line_told}
 use Rattle.afr_trace_read.specs.Trace.{Told, line_feeds, onward, told_on, trace_told}
 use Rattle.afr_trace_read.specs.declared.kinds.TraceLine.{TraceLine}
+use Rattle.afr_trace_read.specs.declared.trace.SpelledLine.{SpelledLine}
 
 -- ---- line feeds
 as_many : (b : ℕ) (lines : List (List ℕ)) (tail : List ℕ) → length (with_byte b lines tail).lines ≡ length lines
@@ -44,3 +46,20 @@ told_few p tail (l ∷ lines) before =
 pub lines_few : (p : Plan) (text : List ℕ) → length (trace_told p text).lines ≤ line_feeds text
 unfolding trace_told
 lines_few p text = omega (arith, told_few p (text_of text).tail (text_of text).lines [])
+
+spelled_few : (xs : List SpelledLine) → length (map seen_line xs) ≡ length xs
+spelled_few [] = refl
+spelled_few (x ∷ xs) = ap suc (spelled_few xs)
+
+-- the lines that were read of a trace within the limit are few
+pub read_few : (p : Plan) (text : List ℕ) (xs : List SpelledLine) (told : Told) → told ≡ trace_told p text → told.lines ≡ reverse (map seen_line xs) → line_feeds text ≤ 2000 → length xs < 2147483647
+read_few p text xs told e lines few =
+    omega (
+      arith,
+      lines_few p text,
+      few,
+      spelled_few xs,
+      length-reverse (map seen_line xs),
+      ap (λ (ys : List (TraceLine × List ℕ)). length ys) lines,
+      ap (λ (t : Told). length t.lines) e,
+    )

@@ -1,23 +1,24 @@
 -- What is found of a trace, by the log that its lines have built so far.
-use Rattle.std.proofs.Common.{◌≡◌, ◌∙◌, ◌↔◌, ℕ, zero, suc, ◌+◌, ◌<◌, ◌≤◌, Bool, true, false, List, [], ◌∷◌, ◌++◌, Option, Some, None, IfNone, IfSome, length, drop, get_or, map, reverse, refl, sym, ap, subst, arith, add-one, append_assoc, if◌then◌else◌}
-use Rattle.std.proofs.lemmas.List.{reverse-append, reverse-reverse}
+use Rattle.std.proofs.Common.{◌≡◌, ◌∙◌, ◌↔◌, ℕ, zero, suc, ◌+◌, ◌<◌, ◌≤◌, Bool, true, false, List, [], ◌∷◌, ◌++◌, Option, Some, None, IfNone, IfSome, length, drop, get_or, IfOk, Result, map, reverse, refl, sym, ap, subst, arith, add-one, append_assoc, if◌then◌else◌}
+use Rattle.std.proofs.lemmas.List.{length-reverse, reverse-append, reverse-reverse}
 use Rattle.std.proofs.lemmas.Option.{same_Some}
 use Rattle.afr_lines.specs.Log.{EveryPrefix}
 use Rattle.afr_lines.specs.declared.line.Line.{Line}
-use Rattle.afr_model.specs.Blamed.{AreBlamed, Blames}
-use Rattle.afr_model.specs.Following.{Follows, IsFollowing}
+use Rattle.afr_model.specs.Blamed.{Blames}
+use Rattle.afr_model.specs.Following.{IsFollowing}
 use Rattle.afr_model.specs.Safe.{IsSafe}
 use Rattle.afr_plan.specs.declared.plan.Plan.{Plan}
 use Rattle.afr_trace_build.specs.Built.{Built, End, NoLine, OtherWords, Whole, and_on, built, built_on, end_of}
 use Rattle.afr_trace_build.specs.Filling.{fill}
 use Rattle.afr_trace_build.specs.declared.filling.Filled.{Filled}
 use Rattle.afr_trace_build.specs.declared.filling.Filled.TheVariants as filled
-use Rattle.afr_trace_check.specs.Honest.{AreHonestBySums, IsHonestBySums}
-use Rattle.afr_trace_check.specs.Right.{BreaksFirst, Breaks, Ends, EndsBy, IsFound, IsFoundIn, IsRight, IsRightAlways}
+use Rattle.afr_trace_check.specs.Honest.{IsHonestBySums}
+use Rattle.afr_trace_check.specs.Right.{BreaksFirst, Breaks, Ends, EndsBy, IsFoundIn, IsRight, IsRightAlways}
 use Rattle.afr_trace_check.specs.declared.finding.Finding.TheVariants as finding
 use Rattle.afr_trace_check.specs.declared.finding.Rule.{Rule}
 use Rattle.afr_trace_check.specs.declared.finding.Rule.TheVariants as rule
 use Rattle.afr_base.specs.declared.ids.Gfid.{Gfid}
+use Rattle.afr_base.specs.declared.memory.NoMemory.{NoMemory}
 use Rattle.afr_trace_safe.specs.Touched.{WasSafe, touched}
 use Rattle.afr_trace_check.specs.Taken.{BreaksOne, IsOutcomeOf, KeepsRules}
 use Rattle.afr_trace_read.specs.Seen.{seen_line}
@@ -108,14 +109,14 @@ next_broken p whole broken x xs older log first filled.NoLine e h all b = found_
 next_broken p whole broken x xs older log first filled.OtherWords e h all b = found_end p whole older OtherWords first (builds p whole broken x xs older filled.OtherWords e b) all (same_Some first rule.Follows h)
 
 -- ---- the lines of a trace
-spelled_at : (xs : List SpelledLine) (i : ℕ) (x : SpelledLine) → i < length xs → x ≡ get_or xs i x → drop i (map seen_line xs) ≡ seen_line x ∷ drop (suc i) (map seen_line xs)
-spelled_at [] i x low e = absurd (omega (arith, low))
-spelled_at (y ∷ ys) zero x low e = ap (λ (z : SpelledLine). seen_line z ∷ map seen_line ys) (sym e)
-spelled_at (y ∷ ys) (suc i) x low e = spelled_at ys i x (omega (arith, low)) e
+spelled_at : (xs : List SpelledLine) (i : ℕ) (x : SpelledLine) → i < length xs → drop i (map seen_line xs) ≡ seen_line (get_or xs i x) ∷ drop (suc i) (map seen_line xs)
+spelled_at [] i x low = absurd (omega (arith, low))
+spelled_at (y ∷ ys) zero x low = refl
+spelled_at (y ∷ ys) (suc i) x low = spelled_at ys i x (omega (arith, low))
 
 -- from one line on
-spelled_next : (xs : List SpelledLine) (i : ℕ) (x : SpelledLine) → i < length xs → x ≡ get_or xs i x → drop i (map seen_line xs) ≡ seen_line x ∷ drop (i + 1) (map seen_line xs)
-spelled_next xs i x low e = spelled_at xs i x low e ∙ ap (λ (k : ℕ). seen_line x ∷ drop k (map seen_line xs)) (sym (add-one i))
+spelled_next : (xs : List SpelledLine) (i : ℕ) (x : SpelledLine) → i < length xs → drop i (map seen_line xs) ≡ seen_line (get_or xs i x) ∷ drop (i + 1) (map seen_line xs)
+spelled_next xs i x low = spelled_at xs i x low ∙ ap (λ (k : ℕ). seen_line (get_or xs i x) ∷ drop k (map seen_line xs)) (sym (add-one i))
 
 spelled_end : (xs : List SpelledLine) (i : ℕ) → length xs ≤ i → drop i (map seen_line xs) ≡ []
 spelled_end [] zero h = refl
@@ -124,19 +125,24 @@ spelled_end (x ∷ xs) zero h = absurd (omega (arith, h))
 spelled_end (x ∷ xs) (suc i) h = spelled_end xs i (omega (arith, h))
 
 module _ (p : Plan) (whole : Built) (broken : Bool) (xs : List SpelledLine) (i : ℕ) (older : List Line) (built_so_far : whole ≡ built_on p broken (drop i (map seen_line xs)) older) where
-  at_line : (x : SpelledLine) → i < length xs → x ≡ get_or xs i x → whole ≡ built_on p broken (seen_line x ∷ drop (i + 1) (map seen_line xs)) older
-  at_line x low e = built_so_far ∙ ap (λ (ys : List (TraceLine × List ℕ)). built_on p broken ys older) (spelled_next xs i x low e)
+  at_line : (x : SpelledLine) → i < length xs → whole ≡ built_on p broken (seen_line (get_or xs i x) ∷ drop (i + 1) (map seen_line xs)) older
+  at_line x low = built_so_far ∙ ap (λ (ys : List (TraceLine × List ℕ)). built_on p broken ys older) (spelled_next xs i x low)
 
-  pub line_taken : (x : SpelledLine) (log : List Line) → i < length xs → x ≡ get_or xs i x → IsOutcomeOf p older log (fill p older (seen_line x)) None
+  pub line_taken : (x : SpelledLine) (log : List Line) (o : Option Rule) → i < length xs → IsOutcomeOf p older log (fill p older (seen_line (get_or xs i x))) o → o ≡ None
       → (whole ≡ built_on p broken (drop (i + 1) (map seen_line xs)) log) × EveryPrefix (IsRight p) log × (length log ≡ suc (length older))
-  line_taken x log low e h = next_taken p whole broken (seen_line x) (drop (i + 1) (map seen_line xs)) older log (fill p older (seen_line x)) refl h (at_line x low e)
+  line_taken x log o low h e =
+      let spelled = seen_line (get_or xs i x) in
+      next_taken p whole broken spelled (drop (i + 1) (map seen_line xs)) older log (fill p older spelled) refl (subst (λ (y : Option Rule). IsOutcomeOf p older log (fill p older spelled) y) e h) (at_line x low)
 
-  pub line_broken : (x : SpelledLine) (log : List Line) (first : Rule) → i < length xs → x ≡ get_or xs i x → IsOutcomeOf p older log (fill p older (seen_line x)) (Some first) → EveryPrefix (IsRight p) older
-      → IsFoundIn p whole (finding.No (length older) first)
-  line_broken x log first low e h all = next_broken p whole broken (seen_line x) (drop (i + 1) (map seen_line xs)) older log first (fill p older (seen_line x)) refl h all (at_line x low e)
+  pub line_broken : (x : SpelledLine) (log : List Line) (first : Rule) (o : Option Rule) (count : ℕ) → i < length xs → IsOutcomeOf p older log (fill p older (seen_line (get_or xs i x))) o → o ≡ Some first → EveryPrefix (IsRight p) older → length older ≡ count
+      → IsFoundIn p whole (finding.No count first)
+  line_broken x log first o count low h e all many =
+      let spelled = seen_line (get_or xs i x) in
+      subst (λ (n : ℕ). IsFoundIn p whole (finding.No n first)) many
+      (next_broken p whole broken spelled (drop (i + 1) (map seen_line xs)) older log first (fill p older spelled) refl (subst (λ (y : Option Rule). IsOutcomeOf p older log (fill p older spelled) y) e h) all (at_line x low))
 
-  pub lines_end : length xs ≤ i → EveryPrefix (IsRight p) older → IsFoundIn p whole (if broken then finding.No (length older) rule.Text else finding.Yes (length older))
-  lines_end high all = by broken (built_so_far ∙ ap (λ (ys : List (TraceLine × List ℕ)). built_on p broken ys older) (spelled_end xs i high))
+  pub lines_end : (count : ℕ) → length xs ≤ i → EveryPrefix (IsRight p) older → length older ≡ count → IsFoundIn p whole (if broken then finding.No count rule.Text else finding.Yes count)
+  lines_end count high all many = subst (λ (n : ℕ). IsFoundIn p whole (if broken then finding.No n rule.Text else finding.Yes n)) many (by broken (built_so_far ∙ ap (λ (ys : List (TraceLine × List ℕ)). built_on p broken ys older) (spelled_end xs i high)))
     where
       by : (f : Bool) → whole ≡ record { log = older; end = end_of f } → IsFoundIn p whole (if f then finding.No (length older) rule.Text else finding.Yes (length older))
       by true e = found_end p whole older NoLine rule.Text e all refl
@@ -186,5 +192,16 @@ module _ (p : Plan) (l : Line) (items more more_slice : List Line) (safe : Bool)
       let log : reverse more ≡ l ∷ reverse items = log_more items more l f in (
         log,
         subst (λ (xs : List Line). EveryPrefix (IsRight p) xs) (sym log)
-        (right_next p l (reverse items) all keeps.follows keeps.honest keeps.blamed (subst (λ (xs : List Line). IsSafe p xs) same_log (told.0 is_safe))),
+            (right_next p l (reverse items) all keeps.follows keeps.honest keeps.blamed (subst (λ (xs : List Line). IsSafe p xs) same_log (told.0 is_safe))),
       )
+
+-- a text that stands for a line
+pub outcome_filled : (p : Plan) (older log : List Line) (f g : Filled) (r : Result (Option Rule) NoMemory) → f ≡ g → IfOk r (λ o. IsOutcomeOf p older log f o) → IfOk r (λ o. IsOutcomeOf p older log g o)
+outcome_filled p older log f g r e h = subst (λ (x : Filled). IfOk r (λ o. IsOutcomeOf p older log x o)) e h
+
+-- how many lines the log of the code has
+pub logged : (xs : List Line) (i : ℕ) → length xs ≡ i → length (reverse xs) ≡ i
+logged xs i e = length-reverse xs ∙ e
+
+pub logged_back : (xs : List Line) (more i : ℕ) → length (reverse xs) ≡ suc more → more ≡ i → length xs ≡ i + 1
+logged_back xs more i e h = sym (length-reverse xs) ∙ e ∙ ap suc h ∙ sym (add-one i)

@@ -1,7 +1,6 @@
 -- What is so of a line that a text stands for: a piece that it copies ends within the longest file, and its bytes fit in it; it asks a brick that there is.
-use Rattle.std.proofs.Common.{◌≡◌, ◌∙◌, ℕ, ◌+◌, ◌<◌, ◌≤◌, ◌==◌, ◌&&◌, ◌||◌, nat_le, nat_lt, Bool, true, false, List, ◌∷◌, Option, Some, None, length, refl, sym, ap, subst, arith, IfSome, if◌then◌else◌}
+use Rattle.std.proofs.Common.{◌≡◌, ℕ, ◌+◌, ◌<◌, ◌≤◌, ◌==◌, ◌&&◌, ◌||◌, nat_le, nat_lt, Bool, true, false, List, Option, Some, None, length, refl, subst, arith, if◌then◌else◌}
 use Rattle.std.specs.Prelude.{option_map}
-use Rattle.std.proofs.lemmas.Bool.{eqb-true}
 use Rattle.std.proofs.lemmas.Bool.Decides.{nat_tests}
 use Rattle.std.proofs.lemmas.Option.{same_Some}
 use Rattle.afr_base.specs.Bricks.{and_left, and_right}
@@ -31,7 +30,6 @@ use Rattle.afr_trace_build.specs.Requests.{area_from, asks_for, is_actor, is_ans
 use Rattle.afr_trace_build.specs.Shown.{ask_shown, read_len, shown_by}
 use Rattle.afr_trace_build.specs.declared.filling.Filled.{Filled}
 use Rattle.afr_trace_build.specs.declared.filling.Filled.TheVariants as filled
-use Rattle.afr_trace_build.specs.declared.showing.Shown.{Shown}
 use Rattle.afr_trace_read.specs.declared.kinds.Answered.{Answered}
 use Rattle.afr_trace_read.specs.declared.kinds.Doing.{Doing}
 use Rattle.afr_trace_read.specs.declared.kinds.Doing.TheVariants as doing
@@ -141,7 +139,7 @@ module _ (P : Line → Type 0) (p : Plan) (older : List Line) (quiet : (l : Line
   done_has a (doing.HealEnd kind g end) text l actor e =
       named_has (is_heal_end p end) (filled.Stands (line.HealEnd a g kind (heal_reply_from (shown_by p older (trace_line.Of a (doing.HealEnd kind g end))) end))) l
       (λ named k. same_has (line.HealEnd a g kind (heal_reply_from (shown_by p older (trace_line.Of a (doing.HealEnd kind g end))) end)) l
-        (quiet (line.HealEnd a g kind (heal_reply_from (shown_by p older (trace_line.Of a (doing.HealEnd kind g end))) end)) refl) k) e
+      (quiet (line.HealEnd a g kind (heal_reply_from (shown_by p older (trace_line.Of a (doing.HealEnd kind g end))) end)) refl) k) e
   done_has a (doing.End end) text l actor e =
       same_has (line.End a (reply_from p older (shown_by p older (trace_line.Of a (doing.End end))) a end text)) l (quiet (line.End a (reply_from p older (shown_by p older (trace_line.Of a (doing.End end))) a end text)) refl) e
 

@@ -41,13 +41,7 @@ pub(crate) struct Taken {
 }
 
 /// What a line breaks of the rules that speak of it alone.
-fn broken_by(
-    tally: &Tally,
-    lists: &Lists,
-    plan: &Plan,
-    log: &[Line],
-    line: &Line,
-) -> Option<Rule>
+fn broken_by(tally: &Tally, lists: &Lists, plan: &Plan, log: &[Line], line: &Line) -> Option<Rule>
     requires tally { IsTally plan.now (reverse log.now) tally.now }
     requires lists { AreLists plan.now (reverse log.now) lists.now }
     requires shape { plan.now.shape.n ≤ 5 }

@@ -1,4 +1,4 @@
-use Rattle.std.proofs.Common.{◌∙◌, sym, if◌then◌else◌}
+use Rattle.std.proofs.Common.{◌∙◌, sym}
 use Rattle.afr_trace_check.proofs.ToldLemmas.{there_told, absent_told}
 use Rattle.afr_trace_check.proofs.told.if_there.Goals as goal
 

@@ -1,0 +1,119 @@
+//! What is found of the trace of a run, and of others that differ from it in one line.
+use afr_plan_read::read_plan;
+use afr_trace_check::{Finding, Rule, check};
+use std::alloc::Global;
+use std::test::Fail;
+
+const PLAN: &str = "\
+afr 1
+volume replica
+files 1
+turns 100000
+client 1
+write /f1 0 \"hello\"
+client 2
+read /f1 0 5
+read /f1 0 5
+at 15 kill c1
+at 25 stop 0
+go c1 15
+end
+";
+
+/// The trace of this plan's run up to its seventh line.
+const FIRST: &str = "\
+0 c1 b0 look g1 seen
+1 c1 b1 look g1 seen
+2 c1 b2 look g1 seen
+3 c1 b0 name g1/f1 ok
+4 c1 b0 lock f1[0,5) granted
+5 c1 b1 lock f1[0,5) granted
+6 c1 b2 lock f1[0,5) granted
+";
+
+/// From its ninth line to its twenty-fourth.
+const NEXT: &str = "\
+8 c1 b1 look f1 seen
+9 c1 b2 look f1 seen
+10 c1 begin write f1 0 5
+11 c1 b0 pre f1 data done
+12 c1 b1 pre f1 data done
+13 c1 b2 pre f1 data done
+14 c1 b0 apply 10 done
+15 event kill c1
+16 c2 b0 look g1 seen
+17 c2 b1 look g1 seen
+18 c2 b2 look g1 seen
+19 c2 b0 name g1/f1 ok
+20 c2 b0 look f1 seen
+21 c2 b1 look f1 seen
+22 c2 b2 look f1 seen
+23 c2 b0 read f1[0,5) ok
+";
+
+/// From its twenty-sixth on.
+const LAST: &str = "\
+25 event stop 0
+26 c2 b0 look g1 gone
+27 c2 b1 look g1 seen
+28 c2 b2 look g1 seen
+29 c2 b1 name g1/f1 ok
+30 c2 b0 look f1 gone
+31 c2 b1 look f1 seen
+32 c2 b2 look f1 seen
+33 c2 b1 read f1[0,5) ok
+34 c2 end ok -
+";
+
+/// What is found of the trace with these two lines between its parts.
+fn found(alloc: Global, eighth: &str, other: &str) -> Result<Finding, Fail> {
+    let plan = match read_plan(alloc, PLAN.as_bytes()) {
+        Ok(plan) => plan,
+        Err(_) => return Err("the plan isn't read".into()),
+    };
+    let mut text = String::new(alloc);
+    text.push_str(FIRST)?;
+    text.push_str(eighth)?;
+    text.push_str(NEXT)?;
+    text.push_str(other)?;
+    text.push_str(LAST)?;
+    match check(alloc, &plan, text.as_str().as_bytes()) {
+        Ok(found) => Ok(found),
+        Err(_) => Err("the trace isn't checked".into()),
+    }
+}
+
+#[test]
+fn the_trace_of_a_run_is_right(rt: HostRuntime) -> Result<(), Fail> {
+    let found = found(rt.alloc(), "7 c1 b0 look f1 seen\n", "24 c2 end ok 68656c6c6f\n")?;
+    assert!(rt; found == Finding::Yes(35), "{found:?}");
+    Ok(())
+}
+
+#[test]
+fn a_line_of_another_brick_does_not_follow(rt: HostRuntime) -> Result<(), Fail> {
+    let found = found(rt.alloc(), "7 c1 b1 look f1 seen\n", "24 c2 end ok 68656c6c6f\n")?;
+    assert!(rt; found == Finding::No { line: 7, rule: Rule::Follows }, "{found:?}");
+    Ok(())
+}
+
+#[test]
+fn a_brick_that_is_up_has_no_lost_request(rt: HostRuntime) -> Result<(), Fail> {
+    let found = found(rt.alloc(), "7 c1 b0 look f1 gone\n", "24 c2 end ok 68656c6c6f\n")?;
+    assert!(rt; found == Finding::No { line: 7, rule: Rule::Honest }, "{found:?}");
+    Ok(())
+}
+
+#[test]
+fn a_read_gives_what_was_read(rt: HostRuntime) -> Result<(), Fail> {
+    let found = found(rt.alloc(), "7 c1 b0 look f1 seen\n", "24 c2 end ok -\n")?;
+    assert!(rt; found == Finding::No { line: 24, rule: Rule::Follows }, "{found:?}");
+    Ok(())
+}
+
+#[test]
+fn a_text_that_ends_early_breaks_its_form(rt: HostRuntime) -> Result<(), Fail> {
+    let found = found(rt.alloc(), "7 c1 b0 look f1 seen\n", "24 c2 end\n")?;
+    assert!(rt; found == Finding::No { line: 24, rule: Rule::Text }, "{found:?}");
+    Ok(())
+}
