@@ -28,7 +28,12 @@ pub fn reports(alloc: Global, plan: &Plan, lines: Vec<Line>, text: &str) -> Resu
 }
 
 /// Whether the summary of load 7 has this text.
-pub fn summarizes(alloc: Global, plan: &Plan, lines: Vec<Line>, text: &str) -> Result<bool, NoMemory> {
+pub fn summarizes(
+    alloc: Global,
+    plan: &Plan,
+    lines: Vec<Line>,
+    text: &str,
+) -> Result<bool, NoMemory> {
     if plan.shape.n > 5 || !has_brick_lines(&lines) {
         return Ok(false);
     }
@@ -76,7 +81,10 @@ fn count_if(brick: &mut Brick, here: bool, request: &Request) -> Result<(), NoMe
     match request {
         Request::Pre { gfid, kind } if here => pre(brick, *gfid, *kind),
         Request::Post {
-            gfid, kind, missed, ..
+            gfid,
+            kind,
+            missed,
+            ..
         } if here => post(brick, *gfid, *kind, *missed),
         _ => Ok(()),
     }

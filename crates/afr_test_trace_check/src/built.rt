@@ -50,13 +50,7 @@ pub fn ended_by(alloc: Global, text: &str, lines: usize, last: &str) -> Result<S
     Ok(out)
 }
 
-fn add(
-    tally: &mut Tally,
-    alloc: Global,
-    plan: &Plan,
-    log: &[Line],
-    line: &Line,
-) -> Result<(), Fail>
+fn add(tally: &mut Tally, alloc: Global, plan: &Plan, log: &[Line], line: &Line) -> Result<(), Fail>
     requires was { IsTally plan.now (reverse log.now) tally.old }
     requires known { AsksKnown line.now }
     requires few { length log.now < 2147483648 }
@@ -96,13 +90,7 @@ fn take(
     if !asks_known(&line) {
         return Err("an unknown actor or brick".into());
     }
-    add(
-        &mut taken.tally,
-        alloc,
-        plan,
-        taken.log.as_slice(),
-        &line,
-    )?;
+    add(&mut taken.tally, alloc, plan, taken.log.as_slice(), &line)?;
     taken.log.push(line)?;
     Ok(())
 }

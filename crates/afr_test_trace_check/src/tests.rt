@@ -1,5 +1,5 @@
 //! What is found of the trace of a run, and of others that differ from it in one line.
-use afr_plan_read::read_plan;
+use crate::built::plan_of;
 use afr_trace_check::{Finding, Rule, check};
 use std::alloc::Global;
 use std::test::Fail;
@@ -67,10 +67,7 @@ const LAST: &str = "\
 
 /// What is found of the trace with these two lines between its parts.
 fn found(alloc: Global, eighth: &str, other: &str) -> Result<Finding, Fail> {
-    let plan = match read_plan(alloc, PLAN.as_bytes()) {
-        Ok(plan) => plan,
-        Err(_) => return Err("the plan isn't read".into()),
-    };
+    let plan = plan_of(alloc, PLAN)?;
     let mut text = String::new(alloc);
     text.push_str(FIRST)?;
     text.push_str(eighth)?;
@@ -85,35 +82,75 @@ fn found(alloc: Global, eighth: &str, other: &str) -> Result<Finding, Fail> {
 
 #[test]
 fn the_trace_of_a_run_is_right(rt: HostRuntime) -> Result<(), Fail> {
-    let found = found(rt.alloc(), "7 c1 b0 look f1 seen\n", "24 c2 end ok 68656c6c6f\n")?;
+    let found = found(
+        rt.alloc(),
+        "7 c1 b0 look f1 seen\n",
+        "24 c2 end ok 68656c6c6f\n",
+    )?;
     assert!(rt; found == Finding::Yes(35), "{found:?}");
     Ok(())
 }
 
 #[test]
 fn a_line_of_another_brick_does_not_follow(rt: HostRuntime) -> Result<(), Fail> {
-    let found = found(rt.alloc(), "7 c1 b1 look f1 seen\n", "24 c2 end ok 68656c6c6f\n")?;
-    assert!(rt; found == Finding::No { line: 7, rule: Rule::Follows }, "{found:?}");
+    let found = found(
+        rt.alloc(),
+        "7 c1 b1 look f1 seen\n",
+        "24 c2 end ok 68656c6c6f\n",
+    )?;
+    assert!(rt;
+        found
+            == Finding::No {
+                line: 7,
+                rule: Rule::Follows
+            },
+        "{found:?}"
+    );
     Ok(())
 }
 
 #[test]
 fn a_brick_that_is_up_has_no_lost_request(rt: HostRuntime) -> Result<(), Fail> {
-    let found = found(rt.alloc(), "7 c1 b0 look f1 gone\n", "24 c2 end ok 68656c6c6f\n")?;
-    assert!(rt; found == Finding::No { line: 7, rule: Rule::Honest }, "{found:?}");
+    let found = found(
+        rt.alloc(),
+        "7 c1 b0 look f1 gone\n",
+        "24 c2 end ok 68656c6c6f\n",
+    )?;
+    assert!(rt;
+        found
+            == Finding::No {
+                line: 7,
+                rule: Rule::Honest
+            },
+        "{found:?}"
+    );
     Ok(())
 }
 
 #[test]
 fn a_read_gives_what_was_read(rt: HostRuntime) -> Result<(), Fail> {
     let found = found(rt.alloc(), "7 c1 b0 look f1 seen\n", "24 c2 end ok -\n")?;
-    assert!(rt; found == Finding::No { line: 24, rule: Rule::Follows }, "{found:?}");
+    assert!(rt;
+        found
+            == Finding::No {
+                line: 24,
+                rule: Rule::Follows
+            },
+        "{found:?}"
+    );
     Ok(())
 }
 
 #[test]
 fn a_text_that_ends_early_breaks_its_form(rt: HostRuntime) -> Result<(), Fail> {
     let found = found(rt.alloc(), "7 c1 b0 look f1 seen\n", "24 c2 end\n")?;
-    assert!(rt; found == Finding::No { line: 24, rule: Rule::Text }, "{found:?}");
+    assert!(rt;
+        found
+            == Finding::No {
+                line: 24,
+                rule: Rule::Text
+            },
+        "{found:?}"
+    );
     Ok(())
 }

@@ -3,5 +3,5 @@ use Rattle.afr_lines.specs.declared.line.Line.{Line}
 use Rattle.afr_trace_tally.specs.Tally.{IsTally}
 use Rattle.afr_test_trace_check.proofs.built.nothing.Goals as goal
 
-pub returns-in-Ok : goal.returns-in-Ok
-returns-in-Ok c = subst (λ (xs : List Line). IsTally c.args.plan.now (reverse xs) c.in-Ok.tally) (sym c.new.ensures.items) ?
+pub returns : goal.returns
+returns c = subst (λ (xs : List Line). IsTally c.args.plan.now (reverse xs) c.in-Ok.tally) (sym c.new-2.ensures.items) c.in-Ok.ensures
