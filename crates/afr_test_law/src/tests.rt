@@ -5,9 +5,9 @@ ghost use Rattle.afr_model.specs.Honest.{Honest};
 
 use afr_check::is_honest;
 use afr_check_logs::{Worked, log_of, plan_of};
-use afr_check_moves::first_unlawful;
 use afr_lines::Line;
 use afr_plan::Plan;
+use afr_trace_moves::first_unlawful;
 use std::alloc::Global;
 use std::test::Fail;
 

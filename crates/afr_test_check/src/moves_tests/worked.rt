@@ -2,9 +2,9 @@
 ghost use Rattle.std.specs.Prelude.{◌≤◌};
 
 use afr_check_logs::{Mistake, Worked, log_of, mistaken, plan_of, worked_of};
-use afr_check_moves::{first_unlawful, makes_new_alone};
 use afr_lines::Line;
 use afr_plan::Plan;
+use afr_trace_moves::{first_unlawful, makes_new_alone};
 use std::alloc::Global;
 
 /// Whether the first line that breaks the discipline is the one at this position, and nothing is made but what is new.

@@ -2,10 +2,10 @@
 ghost use Rattle.std.specs.Prelude.{◌≡◌};
 
 use afr_base::{ActorId, AllMarks, BrickId, BrickSet, Gfid, Kind, NameId, Shape, What};
-use afr_check_moves::{first_unlawful, is_lawful_line, makes_new_alone, register_of};
 use afr_lines::{Area, Domain, Good, Line, Reply, Request, Told};
 use afr_object::{Change, Chunk, List, View};
 use afr_plan::{Plan, Words};
+use afr_trace_moves::{first_unlawful, makes_new_alone};
 use std::alloc::Global;
 use std::test::Fail;
 
@@ -163,26 +163,11 @@ fn breaks_at(alloc: Global, log: &[Line], at: usize) -> bool {
     matches!(first_unlawful(alloc, &plan, log), Ok(first) if first == at)
 }
 
-/// Whether the writer's register has no lock left, and three operations.
-fn is_carried_out(alloc: Global, log: &[Line]) -> bool {
-    let plan = plan(alloc);
-    let register = register_of(&plan, log, WRITER);
-    matches!(register, Ok(register) if register.held.is_empty() && register.done.count() == 3)
-}
-
-/// Whether a Make of this gfid keeps the discipline after the log.
-fn may_make(alloc: Global, log: &[Line], gfid: Gfid, what: What) -> bool {
-    let plan = plan(alloc);
-    let line = make(gfid, what);
-    matches!(is_lawful_line(alloc, &plan, &line, log), Ok(true))
-}
-
 #[test]
 fn a_write_keeps_the_discipline(rt: HostRuntime) -> Result<(), Fail> {
     let mut log = Vec::new(rt.alloc());
     write(rt.alloc(), &mut log)?;
     assert!(rt; breaks_at(rt.alloc(), log.as_slice(), 20));
-    assert!(rt; is_carried_out(rt.alloc(), log.as_slice()));
     Ok(())
 }
 
@@ -217,20 +202,27 @@ fn prepare(log: &mut Vec<Line>) -> Result<(), Fail> {
     ask_all(log, MAKER, &Request::Look { gfid: ROOT }, &view(What::Dir))
 }
 
+/// A write, and a Make of this gfid at position 27.
+fn made(alloc: Global, gfid: Gfid, what: What) -> Result<Vec<Line>, Fail> {
+    let mut log = Vec::new(alloc);
+    write(alloc, &mut log)?;
+    prepare(&mut log)?;
+    log.push(make(gfid, what))?;
+    Ok(log)
+}
+
 #[test]
 fn a_made_gfid_is_new_or_was_read(rt: HostRuntime) -> Result<(), Fail> {
-    let mut log = Vec::new(rt.alloc());
-    write(rt.alloc(), &mut log)?;
-    prepare(&mut log)?;
     for (gfid, what, kept) in [
         (Gfid(29), What::File, true),
         (Gfid(28), What::File, false),
         (FILE, What::File, true),
         (FILE, What::Dir, false),
     ] {
-        assert!(rt; may_make(rt.alloc(), log.as_slice(), gfid, what) == kept);
+        let log = made(rt.alloc(), gfid, what)?;
+        let first = if kept { 28 } else { 27 };
+        assert!(rt; breaks_at(rt.alloc(), log.as_slice(), first));
+        assert!(rt; makes_new_alone(log.as_slice()) == (gfid == Gfid(29)));
     }
-    log.push(make(FILE, What::File))?;
-    assert!(rt; !makes_new_alone(log.as_slice()));
     Ok(())
 }
