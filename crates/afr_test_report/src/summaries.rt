@@ -18,14 +18,14 @@ fn counts_a_refusal(alloc: Global) -> Result<bool, NoMemory> {
     )
 }
 
-/// A healer's round that ended well is no command.
-fn counts_a_split_and_no_round(alloc: Global) -> Result<bool, NoMemory> {
+/// A heal that ended well is counted; a healer's round that did is no command.
+fn counts_a_split_a_heal_and_no_round(alloc: Global) -> Result<bool, NoMemory> {
     let plan = plan_of(alloc, false, List::new(alloc), two_rounds(alloc)?)?;
     summarizes(
         alloc,
         &plan,
         split_and_heals(alloc)?,
-        "gen 7\nlines 12\nok 0\nrefused 0\nsettled 0\nobjects 1\nsplit-brain 1\n",
+        "gen 7\nlines 13\nok 0\nrefused 0\nsettled 1\nobjects 1\nsplit-brain 1\n",
     )
 }
 
@@ -37,8 +37,8 @@ fn a_refusal_is_counted(rt: HostRuntime) -> Result<(), Fail> {
 }
 
 #[test]
-fn a_split_is_counted_and_a_round_is_not(rt: HostRuntime) -> Result<(), Fail> {
-    let holds = counts_a_split_and_no_round(rt.alloc()) == Ok(true);
+fn a_split_and_a_heal_are_counted_and_a_round_is_not(rt: HostRuntime) -> Result<(), Fail> {
+    let holds = counts_a_split_a_heal_and_no_round(rt.alloc()) == Ok(true);
     assert!(rt; holds);
     Ok(())
 }

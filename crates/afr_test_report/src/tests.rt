@@ -51,7 +51,7 @@ fn shows_heals_and_a_split(alloc: Global) -> Result<bool, NoMemory> {
         alloc,
         plan,
         split_and_heals(alloc),
-        "afr replica 3\nlines 12\nh1 1 of 2 unfinished\n1 round ok\nentry 00000000-0000-0000-0000-000000000001 split\ndata 00000000-0000-0000-0000-000000000001 busy h2\nentry 00000000-0000-0000-0000-000000000001 moved 1\nreach 0 1 2\nobjects 1\nobject 00000000-0000-0000-0000-000000000001\nentry split\nb0 trusted.afr.vol-client-1=0x000000000000000000000001\nb0 trusted.afr.vol-client-2=0x000000000000000000000001\nb1 trusted.afr.vol-client-0=0x000000000000000000000001\nb1 trusted.afr.vol-client-2=0x000000000000000000000001\nb2 trusted.afr.dirty=0x000000000000000000000001\nsplit-brain 1\n",
+        "afr replica 3\nlines 13\nh1 1 of 2 unfinished\n1 round ok\nentry 00000000-0000-0000-0000-000000000001 split\ndata 00000000-0000-0000-0000-000000000001 busy h2\nentry 00000000-0000-0000-0000-000000000001 moved 1\nmetadata 00000000-0000-0000-0000-000000000001 settled\nreach 0 1 2\nobjects 1\nobject 00000000-0000-0000-0000-000000000001\nentry split\nb0 trusted.afr.vol-client-1=0x000000000000000000000001\nb0 trusted.afr.vol-client-2=0x000000000000000000000001\nb1 trusted.afr.vol-client-0=0x000000000000000000000001\nb1 trusted.afr.vol-client-2=0x000000000000000000000001\nb2 trusted.afr.dirty=0x000000000000000000000001\nsplit-brain 1\n",
     )
 }
 
