@@ -65,6 +65,9 @@ fn add(
 /// line keeps it: where the lines before the answer are honest, or each object that the log makes has a new
 /// gfid. No line is passed that breaks the discipline after honest ones. The log is gone over once, and once
 /// more up to each line that makes an object whose gfid isn't new.
+///
+/// A plan that is read has clients from 1 to 16 and healers from 17 to 19: so no log that follows one is too
+/// much for its actors.
 pub fn first_unlawful(alloc: Global, plan: &Plan, log: &[Line]) -> Result<usize, Unjudged>
     requires few { plan.now.shape.n ≤ 5 }
     ensures within { IfOk result (λ at. at ≤ length log.now) }
