@@ -1,5 +1,6 @@
 //! The report and the summary of a plan and a log, over servers whose bricks have counted the log's pre-ops and post-ops.
-ghost use Rattle.std.specs.Prelude.{◌≡◌, ◌<◌, ◌-◌, ◌^◌, ℕ, true, reverse, slice_index};
+ghost use Rattle.std.specs.Prelude.{◌≡◌, ◌<◌, ◌-◌, ◌^◌, ℕ, true, reverse, slice_index, EachIndex};
+ghost use Rattle.afr_object.specs.State.{CanPost, CanPre};
 ghost use Rattle.afr_report.specs.BrickLines.{AreBrickLines, IsBrickEvent, IsBrickLine};
 
 use afr_base::{BrickId, BrickSet, Gfid, Kind, Marks, NameId, NoMemory, OPENING_GFIDS};
@@ -60,73 +61,91 @@ fn counted(alloc: Global, plan: &Plan, log: &[Line], b: BrickId) -> Result<Brick
         brick.add_opening_file(NameId(i), Gfid(OPENING_GFIDS + u128::from(i) + 1))?;
     }
     for line in log {
-        count(&mut brick, b, line)?;
+        count(&mut brick, b, line);
     }
     Ok(brick)
 }
 
-fn count(brick: &mut Brick, b: BrickId, line: &Line) -> Result<(), NoMemory> {
+fn count(brick: &mut Brick, b: BrickId, line: &Line) {
     match line {
         Line::Ask {
             brick: asked,
             request,
-            took: true,
+            took,
             ..
-        } => count_if(brick, *asked == b, request),
-        _ => Ok(()),
+        } => {
+            if *took && *asked == b {
+                count_request(brick, request);
+            }
+        }
+        _ => {}
     }
 }
 
-fn count_if(brick: &mut Brick, here: bool, request: &Request) -> Result<(), NoMemory> {
+fn count_request(brick: &mut Brick, request: &Request) {
     match request {
-        Request::Pre { gfid, kind } if here => pre(brick, *gfid, *kind),
+        Request::Pre { gfid, kind } => pre(brick, *gfid, *kind),
         Request::Post {
             gfid,
             kind,
             missed,
             ..
-        } if here => post(brick, *gfid, *kind, *missed),
-        _ => Ok(()),
+        } => post(brick, *gfid, *kind, *missed),
+        _ => {}
     }
 }
 
-fn pre(brick: &mut Brick, g: Gfid, kind: Kind) -> Result<(), NoMemory> {
-    let Some(view) = brick.look(g) else {
-        return Ok(());
-    };
-    if view.marks.of(kind).dirty == u32::MAX {
-        return Ok(());
+fn pre(brick: &mut Brick, g: Gfid, kind: Kind) {
+    if !can_pre(brick, g, kind) {
+        return;
     }
     match brick.pre(g, kind) {
-        Ok(()) => Ok(()),
-        Err(_) => Err(NoMemory),
+        Ok(()) => {}
+        Err(_) => {}
     }
 }
 
-/// Whether an operation is open, and each brick can be accused once more.
-fn may_close(marks: &Marks) -> bool
+/// Whether the dirty number of a copy can rise.
+fn can_pre(brick: &Brick, g: Gfid, kind: Kind) -> bool
+    ensures { result ≡ true → CanPre kind g brick.now.objects }
+{
+    match brick.look(g) {
+        Some(view) => view.marks.of(kind).dirty < u32::MAX,
+        None => true,
+    }
+}
+
+fn post(brick: &mut Brick, g: Gfid, kind: Kind, missed: BrickSet) {
+    if !can_post(brick, g, kind) {
+        return;
+    }
+    match brick.post(g, kind, missed) {
+        Ok(()) => {}
+        Err(_) => {}
+    }
+}
+
+/// Whether an operation is open on a copy, and each brick can be accused once more.
+fn can_post(brick: &Brick, g: Gfid, kind: Kind) -> bool
+    ensures { result ≡ true → CanPost kind g brick.now.objects }
+{
+    match brick.look(g) {
+        Some(view) => can_close(&view.marks.of(kind)),
+        None => true,
+    }
+}
+
+fn can_close(marks: &Marks) -> bool
     ensures open { result ≡ true → 0 < marks.now.dirty }
     ensures room { result ≡ true → (b : ℕ) → b < 5 → slice_index marks.now.pending b < 2 ^ 32 - 1 }
 {
-    marks.dirty > 0
-        && marks.pending[0] < u32::MAX
-        && marks.pending[1] < u32::MAX
-        && marks.pending[2] < u32::MAX
-        && marks.pending[3] < u32::MAX
-        && marks.pending[4] < u32::MAX
+    0 < marks.dirty && below_end(&marks.pending)
 }
 
-fn post(brick: &mut Brick, g: Gfid, kind: Kind, missed: BrickSet) -> Result<(), NoMemory> {
-    let Some(view) = brick.look(g) else {
-        return Ok(());
-    };
-    if !may_close(&view.marks.of(kind)) {
-        return Ok(());
-    }
-    match brick.post(g, kind, missed) {
-        Ok(()) => Ok(()),
-        Err(_) => Err(NoMemory),
-    }
+fn below_end(numbers: &[u32]) -> bool
+    ensures { result ≡ true → EachIndex numbers.now (λ b. slice_index numbers.now b < 2 ^ 32 - 1) }
+{
+    numbers.iter().all(|n| *n < u32::MAX)
 }
 
 fn has_brick_lines(log: &[Line]) -> bool
