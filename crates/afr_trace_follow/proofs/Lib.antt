@@ -2,7 +2,7 @@ pub mod LogLemmas
 pub mod PartLemmas
 pub mod StandLemmas
 pub mod KeepingLemmas
-pub mod RenameLemmas
+pub mod AskedLemmas
 pub mod HealLemmas
 pub mod FollowLemmas
 pub mod RisingLemmas

@@ -1,5 +1,9 @@
 pub mod Seen
 pub mod Parts
+pub mod Asked
+pub mod Renaming
+pub mod Turns
+pub mod Planned
 pub mod Stands
 pub mod Keeping
 pub mod Commands

@@ -1,0 +1,91 @@
+-- What a work has asked along its paths, one line more, and what a rename keeps to by it.
+use Rattle.std.proofs.Common.{◌≡◌, ◌↔◌, ◌∙◌, ℕ, ◌+◌, ◌-◌, ◌<◌, ◌≤◌, ◌==◌, ◌&&◌, ◌||◌, Bool, true, false, List, [], ◌∷◌, Option, Some, None, length, take, reverse, slice_get, refl, sym, ap, subst, arith, if◌then◌else◌}
+use Rattle.std.specs.Prelude.{nat_lt}
+use Rattle.std.proofs.lemmas.Bool.Decides.{nat_tests}
+use Rattle.afr_base.specs.declared.ids.Gfid.{Gfid}
+use Rattle.afr_base.specs.declared.ids.NameId.{NameId}
+use Rattle.afr_lines.specs.Log.{from_oldest}
+use Rattle.afr_lines.specs.LogLemmas.{from_oldest-reverse}
+use Rattle.afr_lines.specs.Work.{Work}
+use Rattle.afr_lines.specs.declared.line.Line.{Line}
+use Rattle.afr_lines.specs.declared.line.Line.TheVariants.{Ask}
+use Rattle.afr_lines.specs.declared.request.Request.TheVariants.{ReadName}
+use Rattle.afr_model.specs.Commands.{last_of}
+use Rattle.afr_model.specs.Parts.{names_asked}
+use Rattle.afr_model.specs.Showing.{begins_attempt}
+use Rattle.afr_model.specs.Standing.{asks_name}
+use Rattle.afr_model.specs.Tables.{Past, entry_at, held_before, holds}
+use Rattle.afr_object.specs.Tables.{Table, root}
+use Rattle.afr_object.specs.declared.change.Change.{Change}
+use Rattle.afr_object.specs.declared.entry.Entry.{Entry}
+use Rattle.afr_plan.specs.declared.plan.Plan.{Plan}
+use Rattle.afr_trace_follow.proofs.LogLemmas.{held_at}
+use Rattle.afr_trace_follow.specs.Asked.{IsAsked, IsFewAsked, asks_in, attempts, dir_of, entry_given, entry_of, given_to, if_given}
+use Rattle.afr_trace_follow.specs.Renaming.{IsDueName, change_due, dir_due, dir_in, link_to, name_due, unlink_from}
+use Rattle.afr_trace_follow.specs.declared.asked.Asked.{Asked}
+use Rattle.afr_trace_tally.specs.Entries.{entry_shown}
+
+-- ---- what is kept
+pub none_is : (p : Plan) (k : ℕ) (x : Asked) → x.names ≡ 0 → x.dir ≡ None → x.entry ≡ None → x.begun ≡ 0 → IsAsked p k [] x
+none_is p k x hn hd he hb = record { names = hn; dir = hd; entry = he; begun = hb }
+
+pub cons_is : (p : Plan) (k : ℕ) (line : Line) (older : List Line) (w : Work) (was new : Asked) (entry : Option Entry) → new.names ≡ (if asks_name line then was.names + 1 else was.names)
+    → new.dir ≡ (if asks_name line && (was.names + 1 == k) then asks_in line else was.dir) → new.entry ≡ (if asks_name line && (was.names + 1 == k) then given_to line entry else was.entry)
+    → new.begun ≡ (if begins_attempt line then was.begun + 1 else was.begun) → given_to line entry ≡ entry_given p line older → IsAsked p k w was → IsAsked p k ((line, older) ∷ w) new
+cons_is p k line older w was new entry hn hd he hb given v = record {
+  names = hn ∙ ap (λ (n : ℕ). if asks_name line then n + 1 else n) v.names;
+  dir = hd ∙ ap (λ (n : ℕ). if asks_name line && (n + 1 == k) then asks_in line else was.dir) v.names ∙ ap (λ (d : Option Gfid). if asks_name line && (names_asked w + 1 == k) then asks_in line else d) v.dir;
+  entry = he ∙ ap (λ (n : ℕ). if asks_name line && (n + 1 == k) then given_to line entry else was.entry) v.names
+      ∙ ap (λ (e : Option Entry). if asks_name line && (names_asked w + 1 == k) then e else was.entry) given
+      ∙ ap (λ (e : Option Entry). if asks_name line && (names_asked w + 1 == k) then entry_given p line older else e) v.entry;
+  begun = hb ∙ ap (λ (n : ℕ). if begins_attempt line then n + 1 else n) v.begun;
+}
+
+-- few names and attempts stay few
+pub few_more : (n : ℕ) (x : Asked) → IsFewAsked n x → IsFewAsked (n + 1) x
+few_more n x f = record { names = omega (arith, f.names); begun = omega (arith, f.begun) }
+
+one_few : (t : Bool) (m n : ℕ) → m ≤ n → (if t then m + 1 else m) ≤ n + 1
+one_few true m n h = omega (arith, h)
+one_few false m n h = omega (arith, h)
+
+pub few_after : (n : ℕ) (asks begins : Bool) (was new : Asked) → new.names ≡ (if asks then was.names + 1 else was.names) → new.begun ≡ (if begins then was.begun + 1 else was.begun) → IsFewAsked n was → IsFewAsked (n + 1) new
+few_after n asks begins was new hn hb f = record {
+  names = subst (λ (m : ℕ). m ≤ n + 1) (sym hn) (one_few asks was.names n f.names);
+  begun = subst (λ (m : ℕ). m ≤ n + 1) (sym hb) (one_few begins was.begun n f.begun);
+}
+
+-- what a line is given, by the entry that it showed
+given_then : (p : Plan) (line : Line) (older : List Line) (entry : Option Entry) (all : Past) (k : ℕ) → ((b : ℕ) → all k b ≡ holds p older b) → entry ≡ entry_shown all k (Some line) → given_to line entry ≡ entry_given p line older
+given_then p (Ask a b (ReadName g name) told took) older entry all k h e = ap (λ (o : Option Entry). if_given told o) (e ∙ ap (λ (t : Table). entry_at g name t) (h b.0))
+given_then p line older entry all k h e = refl
+
+pub given_at : (p : Plan) (log : List Line) (k : ℕ) (line : Line) (entry : Option Entry) → k < length log → slice_get log k ≡ Some line → entry ≡ entry_shown (held_before p (reverse log)) k (from_oldest k (reverse log))
+    → given_to line entry ≡ entry_given p line (reverse (take k log))
+given_at p log k line entry low here e =
+    given_then p line (reverse (take k log)) entry (held_before p (reverse log)) k (λ b. held_at p log k b low)
+    (e ∙ ap (λ (o : Option Line). entry_shown (held_before p (reverse log)) k o) (from_oldest-reverse log k ∙ here))
+
+-- ---- the next name
+-- where it is asked
+abbrev due_by : Plan → List NameId → Work → Bool → Bool → Option Gfid
+due_by p from w first last = if first then Some root else (if last then dir_of (length from) w else dir_in (entry_of p (names_asked w) w))
+
+module _ (p : Plan) (from to : List NameId) (w : Work) (n : ℕ) (e : n ≡ names_asked w) where
+  due_is : (first last : Bool) → ((n == 0) || (n == length from)) ≡ first → (n == length from + length to) ≡ last → due_by p from w first last ≡ dir_due p from to w
+  due_is first last hf hl =
+      sym (ap (λ (t : Bool). due_by p from w t last) (ap (λ (m : ℕ). (m == 0) || (m == length from)) (sym e) ∙ hf)) ∙
+      sym (ap (λ (t : Bool). due_by p from w ((names_asked w == 0) || (names_asked w == length from)) t) (ap (λ (m : ℕ). m == length from + length to) (sym e) ∙ hl))
+
+  pub root_due : ((n == 0) || (n == length from)) ≡ true → Some root ≡ dir_due p from to w
+  root_due h = due_is true (n == length from + length to) h refl
+
+  pub again_due : ((n == 0) || (n == length from)) ≡ false → (n == length from + length to) ≡ true → dir_of (length from) w ≡ dir_due p from to w
+  again_due h k = due_is false true h k
+
+  pub next_due : ((n == 0) || (n == length from)) ≡ false → (n == length from + length to) ≡ false → (entry : Option Entry) → entry ≡ entry_of p n w → dir_in entry ≡ dir_due p from to w
+  next_due h k entry given = ap (λ (o : Option Entry). dir_in o) (given ∙ ap (λ (m : ℕ). entry_of p m w) e) ∙ due_is false false h k
+
+pub due_name : (p : Plan) (from to : List NameId) (g : Gfid) (name : NameId) (w : Work) (next : Option NameId) (dir : Option Gfid) → next ≡ name_due from to (names_asked w) → dir ≡ dir_due p from to w
+    → ((next ≡ Some name) × (dir ≡ Some g) → IsDueName p from to g name w) × (IsDueName p from to g name w → (next ≡ Some name) × (dir ≡ Some g))
+due_name p from to g name w next dir hn hd = (λ k. record { named = sym hn ∙ k.0; within = sym hd ∙ k.1 }, λ k. (hn ∙ k.named, hd ∙ k.within))
