@@ -101,7 +101,7 @@ rename_begins p from to x w e = by (attempts w == 0) (attempts w == 1) e
 
 command_begins : (p : Plan) (c : Command) (a : ActorId) (x : Change) (at : ℕ) (w : Work) → is_long c ≡ false → CarriesOut p c (line.Begin a x) at w → IsShortChange x
 command_begins p (command.Rename from to) a x at w h k = rename_begins p from to x w k
-command_begins p c a x at w h k = named_short k.1.object.gfid at c x h k.1.named
+command_begins p c a x at w h k = named_short k.0.1.object.gfid at c x h k.0.1.named
 
 -- a round begins no attempt
 round_begins : (b : BrickId) (list : List (Gfid × What)) (a : ActorId) (x : Change) (w : Work) → KeepsToList b list (line.Begin a x) w → ⊥

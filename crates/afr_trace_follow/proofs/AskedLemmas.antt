@@ -1,7 +1,7 @@
 -- What a work has asked along its paths, one line more, and what a rename keeps to by it.
-use Rattle.std.proofs.Common.{◌≡◌, ◌↔◌, ◌∙◌, ℕ, ◌+◌, ◌-◌, ◌<◌, ◌≤◌, ◌==◌, ◌&&◌, ◌||◌, Bool, true, false, List, [], ◌∷◌, Option, Some, None, length, take, reverse, slice_get, refl, sym, ap, subst, arith, if◌then◌else◌}
+use Rattle.std.proofs.Common.{◌⊎◌, inl, inr, ◌≡◌, ◌↔◌, ◌∙◌, ℕ, ◌+◌, ◌-◌, ◌<◌, ◌≤◌, ◌==◌, ◌&&◌, ◌||◌, Bool, true, false, List, [], ◌∷◌, Option, Some, None, length, take, reverse, slice_get, refl, sym, ap, subst, arith, if◌then◌else◌}
 use Rattle.std.specs.Prelude.{nat_lt}
-use Rattle.std.proofs.lemmas.Bool.Decides.{nat_tests}
+use Rattle.std.proofs.lemmas.Bool.Decides.{eqb_tells, nat_tests}
 use Rattle.afr_base.specs.declared.ids.Gfid.{Gfid}
 use Rattle.afr_base.specs.declared.ids.NameId.{NameId}
 use Rattle.afr_lines.specs.Log.{from_oldest}
@@ -20,8 +20,8 @@ use Rattle.afr_object.specs.declared.change.Change.{Change}
 use Rattle.afr_object.specs.declared.entry.Entry.{Entry}
 use Rattle.afr_plan.specs.declared.plan.Plan.{Plan}
 use Rattle.afr_trace_follow.proofs.LogLemmas.{held_at}
-use Rattle.afr_trace_follow.specs.Asked.{IsAsked, IsFewAsked, asks_in, attempts, dir_of, entry_given, entry_of, given_to, if_given}
-use Rattle.afr_trace_follow.specs.Renaming.{IsDueName, change_due, dir_due, dir_in, link_to, name_due, unlink_from}
+use Rattle.afr_trace_follow.specs.Asked.{AsksThere, IsAsked, IsFewAsked, asks_in, attempts, dir_next, dir_of, entry_given, entry_of, given_to, if_given}
+use Rattle.afr_trace_follow.specs.Renaming.{IsDueName, dir_due, name_due}
 use Rattle.afr_trace_follow.specs.declared.asked.Asked.{Asked}
 use Rattle.afr_trace_tally.specs.Entries.{entry_shown}
 
@@ -67,24 +67,41 @@ given_at p log k line entry low here e =
     (e ∙ ap (λ (o : Option Line). entry_shown (held_before p (reverse log)) k o) (from_oldest-reverse log k ∙ here))
 
 -- ---- the next name
--- where it is asked
+-- where a line asks a name
+pub there_is : (p : Plan) (line : Line) (w : Work) (g : Gfid) (dir : Option Gfid) → Some g ≡ asks_in line → dir ≡ dir_next p w → (dir ≡ Some g → AsksThere p line w) × (AsksThere p line w → dir ≡ Some g)
+there_is p (Ask a b (ReadName h name) told took) w g dir e d = (λ k. sym d ∙ k ∙ e, λ k. d ∙ k ∙ sym e)
+there_is p line w g dir e d = absurd (cc e)
+
+pub nowhere : (p : Plan) (line : Line) (w : Work) → None ≡ asks_in line → AsksThere p line w
+nowhere p (Ask a b (ReadName h name) told took) w e = absurd (cc e)
+nowhere p line w e = tt
+
+-- where a rename asks the next one
 abbrev due_by : Plan → List NameId → Work → Bool → Bool → Option Gfid
-due_by p from w first last = if first then Some root else (if last then dir_of (length from) w else dir_in (entry_of p (names_asked w) w))
+due_by p from w second last = if second then Some root else (if last then dir_of (length from) w else dir_next p w)
 
 module _ (p : Plan) (from to : List NameId) (w : Work) (n : ℕ) (e : n ≡ names_asked w) where
-  due_is : (first last : Bool) → ((n == 0) || (n == length from)) ≡ first → (n == length from + length to) ≡ last → due_by p from w first last ≡ dir_due p from to w
-  due_is first last hf hl =
-      sym (ap (λ (t : Bool). due_by p from w t last) (ap (λ (m : ℕ). (m == 0) || (m == length from)) (sym e) ∙ hf)) ∙
-      sym (ap (λ (t : Bool). due_by p from w ((names_asked w == 0) || (names_asked w == length from)) t) (ap (λ (m : ℕ). m == length from + length to) (sym e) ∙ hl))
+  due_is : (second last : Bool) → (n == length from) ≡ second → (n == length from + length to) ≡ last → due_by p from w second last ≡ dir_due p from to w
+  due_is second last hf hl =
+      sym (ap (λ (t : Bool). due_by p from w t last) (ap (λ (m : ℕ). m == length from) (sym e) ∙ hf))
+      ∙ sym (ap (λ (t : Bool). due_by p from w (names_asked w == length from) t) (ap (λ (m : ℕ). m == length from + length to) (sym e) ∙ hl))
 
-  pub root_due : ((n == 0) || (n == length from)) ≡ true → Some root ≡ dir_due p from to w
-  root_due h = due_is true (n == length from + length to) h refl
+  same_test : (r : Bool) → ((r ≡ true) ↔ (n ≡ length from)) → (n == length from) ≡ r
+  same_test true h = grind (arith, nat_tests, h.0 refl)
+  same_test false h = by (eqb_tells n (length from))
+    where
+      by : ((n == length from) ≡ true) × (n ≡ length from) ⊎ ((n == length from) ≡ false) × (n ≡ length from → ⊥) → (n == length from) ≡ false
+      by (inl s) = absurd (cc (h.1 s.1))
+      by (inr s) = s.0
 
-  pub again_due : ((n == 0) || (n == length from)) ≡ false → (n == length from + length to) ≡ true → dir_of (length from) w ≡ dir_due p from to w
-  again_due h k = due_is false true h k
+  pub root_due : (r : Bool) → ((r ≡ true) ↔ (n ≡ length from)) → r ≡ true → Some root ≡ dir_due p from to w
+  root_due r h k = due_is true (n == length from + length to) (same_test r h ∙ k) refl
 
-  pub next_due : ((n == 0) || (n == length from)) ≡ false → (n == length from + length to) ≡ false → (entry : Option Entry) → entry ≡ entry_of p n w → dir_in entry ≡ dir_due p from to w
-  next_due h k entry given = ap (λ (o : Option Entry). dir_in o) (given ∙ ap (λ (m : ℕ). entry_of p m w) e) ∙ due_is false false h k
+  pub again_due : (r : Bool) → ((r ≡ true) ↔ (n ≡ length from)) → r ≡ false → (n == length from + length to) ≡ true → dir_of (length from) w ≡ dir_due p from to w
+  again_due r h k last = due_is false true (same_test r h ∙ k) last
+
+  pub next_due : (r : Bool) → ((r ≡ true) ↔ (n ≡ length from)) → r ≡ false → (n == length from + length to) ≡ false → dir_next p w ≡ dir_due p from to w
+  next_due r h k last = due_is false false (same_test r h ∙ k) last
 
 pub due_name : (p : Plan) (from to : List NameId) (g : Gfid) (name : NameId) (w : Work) (next : Option NameId) (dir : Option Gfid) → next ≡ name_due from to (names_asked w) → dir ≡ dir_due p from to w
     → ((next ≡ Some name) × (dir ≡ Some g) → IsDueName p from to g name w) × (IsDueName p from to g name w → (next ≡ Some name) × (dir ≡ Some g))

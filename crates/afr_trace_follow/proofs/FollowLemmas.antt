@@ -20,6 +20,7 @@ use Rattle.afr_plan.specs.declared.command.Command.TheVariants.{Rename}
 use Rattle.afr_plan.specs.declared.plan.Plan.{Plan}
 use Rattle.afr_plan.specs.declared.schedule.PlannedEvent.{PlannedEvent}
 use Rattle.afr_trace_follow.specs.Commands.{new_path}
+use Rattle.afr_trace_follow.specs.Asked.{AsksThere}
 use Rattle.afr_trace_follow.specs.Following.{GoesSome, HasFewActors, KeepsToSome, is_actor}
 use Rattle.afr_trace_follow.specs.Planned.{CarriesOut, IsOfTask, OfCommand, OfRound}
 use Rattle.afr_trace_follow.specs.Renaming.{KeepsToPaths}
@@ -130,7 +131,7 @@ two_paths p (Rename from other) line at w to e =
     (λ k. subst (λ (l : List NameId). KeepsToPaths p from l line w) same k, λ k. subst (λ (l : List NameId). KeepsToPaths p from l line w) (sym same) k)
 two_paths p c line at w to e = absurd (cc e)
 
-pub one_path : (p : Plan) (c : Command) (line : Line) (at : ℕ) (w : Work) → None ≡ new_path c → (KeepsTo p c line at w → CarriesOut p c line at w) × (CarriesOut p c line at w → KeepsTo p c line at w)
+pub one_path : (p : Plan) (c : Command) (line : Line) (at : ℕ) (w : Work) → None ≡ new_path c → (KeepsTo p c line at w × AsksThere p line w → CarriesOut p c line at w) × (CarriesOut p c line at w → KeepsTo p c line at w × AsksThere p line w)
 one_path p (Rename from to) line at w e = absurd (cc e)
 one_path p c line at w e = (λ k. k, λ k. k)
 

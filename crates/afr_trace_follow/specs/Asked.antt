@@ -11,6 +11,7 @@ use Rattle.afr_model.specs.Parts.{names_asked}
 use Rattle.afr_model.specs.Showing.{begins_attempt}
 use Rattle.afr_model.specs.Standing.{asks_name}
 use Rattle.afr_model.specs.Tables.{entry_at, holds}
+use Rattle.afr_object.specs.Tables.{is_dir, root}
 use Rattle.afr_object.specs.declared.entry.Entry.{Entry}
 use Rattle.afr_plan.specs.declared.plan.Plan.{Plan}
 use Rattle.afr_trace_follow.specs.declared.asked.Asked.{Asked}
@@ -44,6 +45,21 @@ entry_of p k (x ∷ w) = if asks_name x.0 && (names_asked w + 1 == k) then entry
 abbrev pub attempts : Work → ℕ
 attempts [] = 0
 attempts (x ∷ w) = if begins_attempt x.0 then attempts w + 1 else attempts w
+
+-- ---- where a name is asked
+-- the directory that an entry is
+abbrev pub dir_in : Option Entry → Option Gfid
+dir_in None = None
+dir_in (Some entry) = if is_dir entry.what then Some entry.gfid else None
+
+-- where the next name of a path is asked: the first in the root, and each further one in the directory that the name before it gave
+abbrev pub dir_next : Plan → Work → Option Gfid
+dir_next p w = if names_asked w == 0 then Some root else dir_in (entry_of p (names_asked w) w)
+
+-- a line that asks a name asks it there
+abbrev pub AsksThere : Plan → Line → Work → Type 0
+AsksThere p (Ask a b (ReadName g name) told took) w = dir_next p w ≡ Some g
+AsksThere p line w = Unit {0}
 
 -- ---- what the code keeps of it
 -- what a line is given that asks a name, by the entry that it showed

@@ -12,13 +12,14 @@ use Rattle.afr_model.specs.Keeping.{KeepsTo}
 use Rattle.afr_plan.specs.declared.command.Command.{Command}
 use Rattle.afr_plan.specs.declared.command.Command.TheVariants as command
 use Rattle.afr_plan.specs.declared.plan.Plan.{Plan}
+use Rattle.afr_trace_follow.specs.Asked.{AsksThere}
 use Rattle.afr_trace_follow.specs.Renaming.{KeepsToPaths}
 use Rattle.afr_trace_follow.specs.Turns.{KeepsToTurns}
 
--- a line of a work carries out its command
+-- a line of a work carries out its command: one of a rename keeps to its two paths, any other to the path's names, each asked in a directory, and to the change
 abbrev pub CarriesOut : Plan → Command → Line → ℕ → Work → Type 0
 CarriesOut p (command.Rename from to) line at w = KeepsToPaths p from to line w
-CarriesOut p c line at w = KeepsTo p c line at w
+CarriesOut p c line at w = KeepsTo p c line at w × AsksThere p line w
 
 -- a line is of its actor's present command or round
 pub data IsOfTask (p : Plan) (a : ℕ) (line : Line) (older : List Line) : Type 0 where

@@ -1,5 +1,5 @@
 -- What a line of a rename keeps to: the names of both paths in their order, and two changes.
-use Rattle.std.specs.Prelude.{◌≡◌, ℕ, ◌+◌, ◌-◌, ◌==◌, ◌||◌, nat_lt, List, Option, Some, None, length, slice_get, if◌then◌else◌}
+use Rattle.std.specs.Prelude.{◌≡◌, ℕ, ◌+◌, ◌-◌, ◌==◌, nat_lt, List, Option, Some, None, length, slice_get, if◌then◌else◌}
 use Rattle.std.specs.Option.{option_map}
 use Rattle.afr_base.specs.declared.ids.Gfid.{Gfid}
 use Rattle.afr_base.specs.declared.ids.NameId.{NameId}
@@ -10,27 +10,21 @@ use Rattle.afr_lines.specs.declared.line.Line.TheVariants.{Ask, Begin, HealBegin
 use Rattle.afr_lines.specs.declared.request.Request.TheVariants.{ReadName}
 use Rattle.afr_model.specs.Commands.{last_of}
 use Rattle.afr_model.specs.Parts.{names_asked}
-use Rattle.afr_object.specs.Tables.{is_dir, root}
+use Rattle.afr_object.specs.Tables.{root}
 use Rattle.afr_object.specs.declared.change.Change.{Change}
 use Rattle.afr_object.specs.declared.change.Change.TheVariants as change
 use Rattle.afr_object.specs.declared.entry.Entry.{Entry}
 use Rattle.afr_plan.specs.declared.plan.Plan.{Plan}
-use Rattle.afr_trace_follow.specs.Asked.{attempts, dir_of, entry_of}
+use Rattle.afr_trace_follow.specs.Asked.{attempts, dir_next, dir_of, entry_of}
 
 -- ---- the names
 -- the name that comes after so many: one of the first path, then one of the second, and then the first path's last one again
 abbrev pub name_due : List NameId → List NameId → ℕ → Option NameId
 name_due from to k = if nat_lt k (length from) then slice_get from k else (if k - length from == length to then last_of from else slice_get to (k - length from))
 
--- the directory that an entry is
-abbrev pub dir_in : Option Entry → Option Gfid
-dir_in None = None
-dir_in (Some entry) = if is_dir entry.what then Some entry.gfid else None
-
--- where it is asked: each path's first name in the root, the last of all where it was asked first, and any other in the directory that the name before it gave
+-- where it is asked: the second path's first name in the root, the last of all where it was asked first, and any other as in one path
 abbrev pub dir_due : Plan → List NameId → List NameId → Work → Option Gfid
-dir_due p from to w =
-    if (names_asked w == 0) || (names_asked w == length from) then Some root else (if names_asked w == length from + length to then dir_of (length from) w else dir_in (entry_of p (names_asked w) w))
+dir_due p from to w = if names_asked w == length from then Some root else (if names_asked w == length from + length to then dir_of (length from) w else dir_next p w)
 
 -- the name that a line asks is the one that comes next
 pub record IsDueName (p : Plan) (from to : List NameId) (g : Gfid) (name : NameId) (w : Work) : Type 0 where

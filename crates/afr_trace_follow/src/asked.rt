@@ -1,14 +1,15 @@
 //! What the present work of an actor has asked along its paths, and how many attempts it has begun.
-ghost use Rattle.std.specs.Prelude.{◌≡◌, ◌+◌, ◌<◌, ◌≤◌, ◌&&◌, ◌==◌, ◌^◌, ◌∷◌, ℕ, [], Some, length, reverse, slice_get, take, if◌then◌else◌};
+ghost use Rattle.std.specs.Prelude.{◌≡◌, ◌↔◌, ◌+◌, ◌<◌, ◌≤◌, ◌&&◌, ◌==◌, ◌^◌, ◌∷◌, ℕ, [], Some, true, length, reverse, slice_get, take, if◌then◌else◌};
 ghost use Rattle.afr_lines.specs.Work.{work};
+ghost use Rattle.afr_model.specs.Parts.{names_asked};
 ghost use Rattle.afr_model.specs.Showing.{begins_attempt};
 ghost use Rattle.afr_model.specs.Standing.{asks_name};
 ghost use Rattle.afr_plan.specs.declared.plan.Plan.{Plan};
-ghost use Rattle.afr_trace_follow.specs.Asked.{IsAsked, IsFewAsked, asks_in, given_to, if_given};
+ghost use Rattle.afr_trace_follow.specs.Asked.{AsksThere, IsAsked, IsFewAsked, asks_in, dir_in, dir_next, given_to, if_given};
 ghost use Rattle.afr_trace_tally.specs.Tally.{IsTally};
 
 use crate::stand::begins_attempt;
-use afr_base::{ActorId, Gfid};
+use afr_base::{ActorId, Gfid, What};
 use afr_lines::{Line, Request, Told};
 use afr_object::Entry;
 use afr_plan::Plan;
@@ -209,4 +210,75 @@ pub(crate) fn asked_at(tally: &Tally, plan: &Plan, log: &[Line], a: ActorId, k: 
     ensures { IsAsked plan.now k (work a.0 (reverse log.now)) result }
 {
     asked_past(tally, plan, log, a, k, 0)
+}
+
+// ---- where a name is asked
+
+fn dir_at(entry: Entry) -> Option<Gfid>
+    ensures { result ≡ dir_in (Some entry) }
+{
+    match entry.what {
+        What::Dir => Some(entry.gfid),
+        What::File => None,
+    }
+}
+
+/// The directory that an entry is.
+fn dir_in(entry: Option<Entry>) -> Option<Gfid>
+    ensures { result ≡ dir_in entry }
+{
+    match entry {
+        Some(entry) => dir_at(entry),
+        None => None,
+    }
+}
+
+/// Where the next name of a path is asked.
+pub(crate) fn dir_next(
+    tally: &Tally,
+    plan: &Plan,
+    log: &[Line],
+    a: ActorId,
+    names: usize,
+) -> Option<Gfid>
+    requires tally { IsTally plan.now (reverse log.now) tally.now }
+    requires few { length log.now < 2147483648 }
+    requires names { names ≡ names_asked (work a.0 (reverse log.now)) }
+    ensures { result ≡ dir_next plan.now (work a.0 (reverse log.now)) }
+{
+    if names == 0 {
+        Some(Gfid(1))
+    } else {
+        dir_in(asked_at(tally, plan, log, a, names).entry)
+    }
+}
+
+pub(crate) fn is_dir(due: Option<Gfid>, g: Gfid) -> bool
+    ensures { (result ≡ true) ↔ (due ≡ Some g) }
+{
+    match due {
+        Some(dir) => dir == g,
+        None => false,
+    }
+}
+
+/// Whether a line that asks a name asks it in a directory: the root, or the one that the name before it gave.
+pub(crate) fn asks_there(
+    tally: &Tally,
+    plan: &Plan,
+    log: &[Line],
+    a: ActorId,
+    line: &Line,
+) -> bool
+    requires tally { IsTally plan.now (reverse log.now) tally.now }
+    requires few { length log.now < 2147483648 }
+    ensures { (result ≡ true) ↔ AsksThere plan.now line.now (work a.0 (reverse log.now)) }
+{
+    match asks_in(line) {
+        Some(g) => {
+            let names = asked_at(tally, plan, log, a, 0).names;
+            is_dir(dir_next(tally, plan, log, a, names), g)
+        }
+        None => true,
+    }
 }

@@ -10,6 +10,7 @@ ghost use Rattle.afr_trace_follow.specs.Lists.{AreLists};
 ghost use Rattle.afr_trace_follow.specs.Planned.{CarriesOut, HasMoment, HasTurn, IsOfTask, IsPlanned};
 ghost use Rattle.afr_trace_tally.specs.Tally.{IsTally};
 
+use crate::asked::asks_there;
 use crate::commands::path_of;
 use crate::facts::{both, same_brick};
 use crate::keeping::keeps_to;
@@ -208,7 +209,10 @@ fn carries_out(
             let from = path_of(command).as_slice();
             keeps_to_paths(tally, plan, log, a, from, to.as_slice(), line)
         }
-        None => keeps_to(tally, plan, log, a, command, line),
+        None => {
+            let keeps = keeps_to(tally, plan, log, a, command, line);
+            both(keeps, asks_there(tally, plan, log, a, line))
+        }
     }
 }
 

@@ -1,16 +1,16 @@
 //! Whether a line of a rename keeps to its two paths.
-ghost use Rattle.std.specs.Prelude.{◌≡◌, ◌↔◌, ◌<◌, ◌==◌, ◌||◌, Bool, Some, true, length, reverse, slice_get};
+ghost use Rattle.std.specs.Prelude.{◌≡◌, ◌↔◌, ◌<◌, Bool, Some, true, length, reverse, slice_get};
 ghost use Rattle.afr_lines.specs.Work.{Work, work};
 ghost use Rattle.afr_base.specs.declared.ids.ActorId.{ActorId};
 ghost use Rattle.afr_base.specs.declared.ids.BrickId.{BrickId};
 ghost use Rattle.afr_lines.specs.declared.answer.Told.{Told};
 ghost use Rattle.afr_model.specs.Parts.{names_asked};
-ghost use Rattle.afr_trace_follow.specs.Renaming.{IsDueName, KeepsToPaths, change_due, dir_due, dir_in, link_to, name_due, name_given, unlink_from};
+ghost use Rattle.afr_trace_follow.specs.Renaming.{IsDueName, KeepsToPaths, change_due, dir_due, link_to, name_due, name_given, unlink_from};
 ghost use Rattle.afr_trace_tally.specs.Tally.{IsTally};
 
-use crate::asked::{asked_at, asked_past, is_sum};
+use crate::asked::{asked_at, asked_past, dir_next, is_dir, is_sum};
 use crate::commands::{last_of, makes_last, removes_last};
-use crate::facts::both;
+use crate::facts::{both, same_number};
 use afr_base::{ActorId, Gfid, NameId, What};
 use afr_lines::{Line, Request};
 use afr_object::{Change, Entry};
@@ -40,32 +40,6 @@ fn name_due(from: &[NameId], to: &[NameId], names: usize) -> Option<NameId>
     }
 }
 
-fn dir_at(entry: Entry) -> Option<Gfid>
-    ensures { result ≡ dir_in (Some entry) }
-{
-    match entry.what {
-        What::Dir => Some(entry.gfid),
-        What::File => None,
-    }
-}
-
-/// The directory that an entry is.
-fn dir_in(entry: Option<Entry>) -> Option<Gfid>
-    ensures { result ≡ dir_in entry }
-{
-    match entry {
-        Some(entry) => dir_at(entry),
-        None => None,
-    }
-}
-
-/// Whether the first name of a path comes after so many.
-fn begins_path(names: usize, first: usize) -> bool
-    ensures { result ≡ ((names == 0) || (names == first)) }
-{
-    names == 0 || names == first
-}
-
 /// Where the next name is asked.
 fn dir_due(
     tally: &Tally,
@@ -81,13 +55,13 @@ fn dir_due(
     requires names { names ≡ names_asked (work a.0 (reverse log.now)) }
     ensures { result ≡ dir_due plan.now from.now to.now (work a.0 (reverse log.now)) }
 {
-    if begins_path(names, from.len()) {
+    if same_number(names, from.len()) {
         return Some(Gfid(1));
     }
     if is_sum(names, from.len(), to.len()) {
         return asked_at(tally, plan, log, a, from.len()).dir;
     }
-    dir_in(asked_at(tally, plan, log, a, names).entry)
+    dir_next(tally, plan, log, a, names)
 }
 
 fn is_name(due: Option<NameId>, name: NameId) -> bool
@@ -95,15 +69,6 @@ fn is_name(due: Option<NameId>, name: NameId) -> bool
 {
     match due {
         Some(next) => next == name,
-        None => false,
-    }
-}
-
-fn is_dir(due: Option<Gfid>, g: Gfid) -> bool
-    ensures { (result ≡ true) ↔ (due ≡ Some g) }
-{
-    match due {
-        Some(dir) => dir == g,
         None => false,
     }
 }
