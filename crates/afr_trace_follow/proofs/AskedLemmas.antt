@@ -1,6 +1,5 @@
 -- What a work has asked along its paths, one line more, and what a rename keeps to by it.
-use Rattle.std.proofs.Common.{◌⊎◌, inl, inr, ◌≡◌, ◌↔◌, ◌∙◌, ℕ, ◌+◌, ◌-◌, ◌<◌, ◌≤◌, ◌==◌, ◌&&◌, ◌||◌, Bool, true, false, List, [], ◌∷◌, Option, Some, None, length, take, reverse, slice_get, refl, sym, ap, subst, arith, if◌then◌else◌}
-use Rattle.std.specs.Prelude.{nat_lt}
+use Rattle.std.proofs.Common.{◌⊎◌, inl, inr, ◌≡◌, ◌↔◌, ◌∙◌, ℕ, ◌+◌, ◌<◌, ◌≤◌, ◌==◌, ◌&&◌, Bool, true, false, List, [], ◌∷◌, Option, Some, None, length, take, reverse, slice_get, refl, sym, ap, subst, arith, if◌then◌else◌}
 use Rattle.std.proofs.lemmas.Bool.Decides.{eqb_tells, nat_tests}
 use Rattle.afr_base.specs.declared.ids.Gfid.{Gfid}
 use Rattle.afr_base.specs.declared.ids.NameId.{NameId}
@@ -10,17 +9,15 @@ use Rattle.afr_lines.specs.Work.{Work}
 use Rattle.afr_lines.specs.declared.line.Line.{Line}
 use Rattle.afr_lines.specs.declared.line.Line.TheVariants.{Ask}
 use Rattle.afr_lines.specs.declared.request.Request.TheVariants.{ReadName}
-use Rattle.afr_model.specs.Commands.{last_of}
 use Rattle.afr_model.specs.Parts.{names_asked}
 use Rattle.afr_model.specs.Showing.{begins_attempt}
 use Rattle.afr_model.specs.Standing.{asks_name}
 use Rattle.afr_model.specs.Tables.{Past, entry_at, held_before, holds}
 use Rattle.afr_object.specs.Tables.{Table, root}
-use Rattle.afr_object.specs.declared.change.Change.{Change}
 use Rattle.afr_object.specs.declared.entry.Entry.{Entry}
 use Rattle.afr_plan.specs.declared.plan.Plan.{Plan}
 use Rattle.afr_trace_follow.proofs.LogLemmas.{held_at}
-use Rattle.afr_trace_follow.specs.Asked.{AsksThere, IsAsked, IsFewAsked, asks_in, attempts, dir_next, dir_of, entry_given, entry_of, given_to, if_given}
+use Rattle.afr_trace_follow.specs.Asked.{AsksThere, IsAsked, IsFewAsked, asks_in, dir_next, dir_of, entry_given, given_to, if_given}
 use Rattle.afr_trace_follow.specs.Renaming.{IsDueName, dir_due, name_due}
 use Rattle.afr_trace_follow.specs.declared.asked.Asked.{Asked}
 use Rattle.afr_trace_tally.specs.Entries.{entry_shown}

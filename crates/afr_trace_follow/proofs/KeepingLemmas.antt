@@ -1,22 +1,18 @@
 -- What a line keeps to, by where its work stands.
-use Rattle.std.proofs.Common.{◌≡◌, ◌↔◌, ◌∙◌, ℕ, ◌-◌, ◌&&◌, not, Bool, true, false, List, Some, None, length, slice_get, refl, sym, ap, subst, if◌then◌else◌}
-use Rattle.std.specs.Option.{option_map}
+use Rattle.std.proofs.Common.{◌≡◌, ◌↔◌, ◌∙◌, ℕ, ◌&&◌, not, Bool, true, false, List, Some, None, slice_get, refl, sym, ap, subst, if◌then◌else◌}
 use Rattle.std.proofs.lemmas.Option.{same_Some}
 use Rattle.afr_base.specs.declared.ids.Gfid.{Gfid}
 use Rattle.afr_base.specs.declared.ids.NameId.{NameId}
-use Rattle.afr_base.specs.declared.ids.What.{What}
-use Rattle.afr_base.specs.declared.ids.What.TheVariants.{File}
 use Rattle.afr_lines.specs.Log.{change_of}
 use Rattle.afr_lines.specs.Work.{Work}
 use Rattle.afr_lines.specs.declared.line.Line.{Line}
 use Rattle.afr_lines.specs.declared.line.Line.TheVariants.{Ask, Begin, HealBegin, HealEnd}
 use Rattle.afr_lines.specs.declared.request.Request.TheVariants.{ReadName}
-use Rattle.afr_model.specs.Commands.{change_named, is_on_name, last_of, path_of, steps_of}
+use Rattle.afr_model.specs.Commands.{change_named, is_on_name, path_of, steps_of}
 use Rattle.afr_model.specs.Keeping.{IsNextName, KeepsTo, Names}
 use Rattle.afr_model.specs.Showing.{At, NoName, Path, Untold, begins_attempt, has, path_by}
 use Rattle.afr_model.specs.Standing.{path_upto, place_by}
 use Rattle.afr_object.specs.declared.change.Change.{Change}
-use Rattle.afr_object.specs.declared.change.Change.TheVariants as changes
 use Rattle.afr_object.specs.declared.entry.Entry.{Entry}
 use Rattle.afr_plan.specs.declared.command.Command.{Command}
 use Rattle.afr_plan.specs.declared.plan.Plan.{Plan}

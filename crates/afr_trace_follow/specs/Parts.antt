@@ -1,6 +1,6 @@
 -- Where the present work of an actor begins in the log, and its lines from a position on.
 use Rattle.std.specs.Prelude.{ℕ, suc, ◌&&◌, nat_le, List, [], ◌∷◌, length, if◌then◌else◌}
-use Rattle.afr_lines.specs.Work.{Work, is_end, is_of, work}
+use Rattle.afr_lines.specs.Work.{Work, is_end, is_of}
 use Rattle.afr_lines.specs.declared.line.Line.{Line}
 
 -- a line of actor a from a position on, before the lines of a work

@@ -1,4 +1,4 @@
-use Rattle.std.proofs.Common.{◌+◌, ◌∙◌, List, arith, reverse, subst, sym, take}
+use Rattle.std.proofs.Common.{◌+◌, ◌∙◌, reverse, subst, sym, take}
 use Rattle.afr_lines.specs.Work.{Work}
 use Rattle.afr_model.specs.Showing.{begins_attempt}
 use Rattle.afr_model.specs.Standing.{asks_name}
