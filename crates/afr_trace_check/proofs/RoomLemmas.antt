@@ -17,7 +17,6 @@ use Rattle.afr_lines.specs.declared.request.Request.{Request}
 use Rattle.afr_lines.specs.declared.request.Request.TheVariants as request
 use Rattle.afr_model.specs.Commands.{change_named, last_of}
 use Rattle.afr_model.specs.Actors.{script_of}
-use Rattle.afr_model.specs.Rounds.{listed_by}
 use Rattle.afr_model.specs.Tables.{bytes_shown}
 use Rattle.afr_object.specs.State.{CanApply}
 use Rattle.afr_object.specs.Tables.{Table, copy_at}
@@ -30,6 +29,7 @@ use Rattle.afr_plan.specs.declared.command.Command.{Command}
 use Rattle.afr_plan.specs.declared.command.Command.TheVariants as command
 use Rattle.afr_plan.specs.declared.plan.Plan.{Plan}
 use Rattle.afr_trace_follow.specs.Asked.{attempts, dir_of, entry_of}
+use Rattle.afr_trace_follow.specs.Marked.{list_of}
 use Rattle.afr_trace_follow.specs.Planned.{CarriesOut, FollowsPlan, IsOfTask, IsPlanned, OfCommand, OfRound}
 use Rattle.afr_trace_follow.specs.Renaming.{change_due, link_to, unlink_from}
 use Rattle.afr_trace_follow.specs.Turns.{KeepsToList}
@@ -111,7 +111,7 @@ round_begins b list a x (y ∷ w) k = k
 
 task_begins : (p : Plan) (a : ActorId) (x : Change) (older : List Line) → is_past_limit p ≡ false → IsOfTask p a.0 (line.Begin a x) older → IsShortChange x
 task_begins p a x older short (OfCommand c e k) = command_begins p c a x (length older) (work a.0 older) (command_short p a.0 _ c short e) k
-task_begins p a x older short (OfRound low b e k) = absurd (round_begins b (listed_by p (work a.0 older)) a x (work a.0 older) k)
+task_begins p a x older short (OfRound low b e k) = absurd (round_begins b (list_of p (work a.0 older)) a x (work a.0 older) k)
 
 line_begins : (p : Plan) (l : Line) (x : Change) (older : List Line) → is_past_limit p ≡ false → IsPlanned p l older → change_of l ≡ Some x → IsShortChange x
 line_begins p (line.Begin a y) x older short follows e = subst IsShortChange (same_Some y x e) (task_begins p a y older short follows.1.0.task)

@@ -6,6 +6,6 @@ pub mod AskedLemmas
 pub mod HealLemmas
 pub mod FollowLemmas
 pub mod RisingLemmas
-pub mod NumberLemmas
+pub mod MarkedLemmas
 pub mod ListLemmas
 pub mod ChangeLemmas

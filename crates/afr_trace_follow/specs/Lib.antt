@@ -8,6 +8,6 @@ pub mod Stands
 pub mod Keeping
 pub mod Commands
 pub mod Healing
-pub mod Numbers
+pub mod Marked
 pub mod Lists
 pub mod Following

@@ -7,8 +7,9 @@ use Rattle.afr_lines.specs.Work.{Work}
 use Rattle.afr_lines.specs.declared.line.Line.{Line}
 use Rattle.afr_lines.specs.declared.line.Line.TheVariants.{Ask, Begin, End, HealEnd}
 use Rattle.afr_lines.specs.declared.request.Request.TheVariants.{Index}
-use Rattle.afr_model.specs.Rounds.{due_in, listed_by}
+use Rattle.afr_model.specs.Rounds.{due_in}
 use Rattle.afr_plan.specs.declared.plan.Plan.{Plan}
+use Rattle.afr_trace_follow.specs.Marked.{list_of}
 
 -- the heals of a list end in their order, then the round ends; until then it does anything else but ask for an index again or begin an attempt
 abbrev pub HealsInTurn : List (Gfid × What) → Line → Work → Type 0
@@ -28,6 +29,6 @@ abbrev pub KeepsToList : BrickId → List (Gfid × What) → Line → Work → T
 KeepsToList b list line [] = AsksIndex b line
 KeepsToList b list line (x ∷ w) = HealsInTurn list line (x ∷ w)
 
--- a line of a work keeps to the round: the list is the one that the index gave
+-- a line of a work keeps to the round: the list is the one that the index gave, the objects with a sum above 0
 abbrev pub KeepsToTurns : Plan → BrickId → Line → Work → Type 0
-KeepsToTurns p b line w = KeepsToList b (listed_by p w) line w
+KeepsToTurns p b line w = KeepsToList b (list_of p w) line w

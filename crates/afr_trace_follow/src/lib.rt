@@ -7,7 +7,7 @@ mod facts;
 mod following;
 mod keeping;
 mod lists;
-mod numbers;
+mod marked;
 mod parts;
 mod path;
 mod renamed;
