@@ -1,5 +1,5 @@
 -- The files of the bricks have room for each line of a trace that follows a plan whose files stay short.
-use Rattle.std.proofs.Common.{◌≡◌, ◌∙◌, ℕ, zero, suc, ◌+◌, ◌-◌, ◌≤◌, ◌==◌, ◌||◌, nat_lt, Bool, true, false, List, [], ◌∷◌, Option, Some, None, length, get_or, slice_get, refl, sym, ap, subst, arith, IfSome, if◌then◌else◌}
+use Rattle.std.proofs.Common.{inl, inr, ◌≡◌, ◌∙◌, ℕ, zero, suc, ◌+◌, ◌-◌, ◌≤◌, ◌==◌, ◌||◌, nat_lt, Bool, true, false, List, [], ◌∷◌, Option, Some, None, length, get_or, slice_get, refl, sym, ap, subst, arith, IfSome, if◌then◌else◌}
 use Rattle.std.specs.List.{list_any}
 use Rattle.std.specs.Prelude.{option_and_then, option_map}
 use Rattle.std.proofs.lemmas.Bool.Decides.{nat_tests}
@@ -110,7 +110,8 @@ round_begins b list a x [] k = k
 round_begins b list a x (y ∷ w) k = k
 
 task_begins : (p : Plan) (a : ActorId) (x : Change) (older : List Line) → is_past_limit p ≡ false → IsOfTask p a.0 (line.Begin a x) older → IsShortChange x
-task_begins p a x older short (OfCommand c e k) = command_begins p c a x (length older) (work a.0 older) (command_short p a.0 _ c short e) k
+task_begins p a x older short (OfCommand c e (inl h)) = absurd (cc h)
+task_begins p a x older short (OfCommand c e (inr k)) = command_begins p c a x (length older) (work a.0 older) (command_short p a.0 _ c short e) k
 task_begins p a x older short (OfRound low b e k) = absurd (round_begins b (list_of p (work a.0 older)) a x (work a.0 older) k)
 
 line_begins : (p : Plan) (l : Line) (x : Change) (older : List Line) → is_past_limit p ≡ false → IsPlanned p l older → change_of l ≡ Some x → IsShortChange x

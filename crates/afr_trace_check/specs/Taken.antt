@@ -1,5 +1,5 @@
 -- The lines of a trace that were taken, and where it stops.
-use Rattle.std.specs.Prelude.{◌≡◌, ◌∷◌, false, List, Option, Some, None, reverse}
+use Rattle.std.specs.Prelude.{◌≡◌, ◌∷◌, List, Option, Some, None, reverse}
 use Rattle.afr_lines.specs.Log.{EveryPrefix}
 use Rattle.afr_lines.specs.declared.line.Line.{Line}
 use Rattle.afr_plan.specs.declared.plan.Plan.{Plan}

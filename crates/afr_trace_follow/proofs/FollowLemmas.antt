@@ -22,7 +22,7 @@ use Rattle.afr_plan.specs.declared.schedule.PlannedEvent.{PlannedEvent}
 use Rattle.afr_trace_follow.specs.Commands.{new_path}
 use Rattle.afr_trace_follow.specs.Asked.{AsksThere}
 use Rattle.afr_trace_follow.specs.Following.{GoesSome, HasFewActors, KeepsToSome, is_actor}
-use Rattle.afr_trace_follow.specs.Planned.{CarriesOut, IsOfTask, OfCommand, OfRound}
+use Rattle.afr_trace_follow.specs.Planned.{CarriesOut, GoesWith, IsOfTask, OfCommand, OfRound, is_heal_line}
 use Rattle.afr_trace_follow.specs.Renaming.{KeepsToPaths}
 
 -- ---- lines
@@ -107,7 +107,7 @@ client_task p a line older o len low e n = (λ k. go o e (subst (λ (m : ℕ). K
     go (Some c) e k = OfCommand c (sym e) k
 
     back : IsOfTask p a line older → KeepsToSome p o line len (work a older)
-    back (OfCommand c h k) = subst (λ (x : Option Command). KeepsToSome p x line len (work a older)) (sym (e ∙ h)) (subst (λ (m : ℕ). CarriesOut p c line m (work a older)) (sym n) k)
+    back (OfCommand c h k) = subst (λ (x : Option Command). KeepsToSome p x line len (work a older)) (sym (e ∙ h)) (subst (λ (m : ℕ). GoesWith p c line m (work a older)) (sym n) k)
     back (OfRound high b h k) = absurd (omega (arith, low, high))
 
 -- a healer's line does where it keeps to its round
@@ -122,6 +122,14 @@ healer_task p a line older o few low e = (λ k. go o e k, back)
     back : IsOfTask p a line older → GoesSome p o line (work a older)
     back (OfCommand c h k) = absurd (no_script p a (ended a older) c few low h)
     back (OfRound high b h k) = subst (λ (x : Option BrickId). GoesSome p x line (work a older)) (sym (e ∙ h)) k
+
+-- a line that is of no heal goes with a command where it carries it out
+pub with_command : (line : Line) (P : Type 0) → is_heal_line line ≡ false → (P → (is_heal_line line ≡ true) ⊎ P) × ((is_heal_line line ≡ true) ⊎ P → P)
+with_command line P e = (λ k. inr k, back)
+  where
+    back : (is_heal_line line ≡ true) ⊎ P → P
+    back (inl h) = absurd (cc (sym e ∙ h))
+    back (inr k) = k
 
 -- a command with a second path is a rename
 pub two_paths : (p : Plan) (c : Command) (line : Line) (at : ℕ) (w : Work) (to : List NameId) → Some to ≡ new_path c

@@ -5,7 +5,7 @@ use Rattle.afr_lines.specs.Work.{Work}
 use Rattle.afr_lines.specs.declared.line.Line.{Line}
 use Rattle.afr_plan.specs.declared.command.Command.{Command}
 use Rattle.afr_plan.specs.declared.plan.Plan.{Plan}
-use Rattle.afr_trace_follow.specs.Planned.{CarriesOut}
+use Rattle.afr_trace_follow.specs.Planned.{GoesWith}
 use Rattle.afr_trace_follow.specs.Turns.{KeepsToTurns}
 
 -- an actor of the plan
@@ -20,7 +20,7 @@ pub record HasFewActors (p : Plan) : Type 0 where
 -- a line keeps to the command, where there is one
 abbrev pub KeepsToSome : Plan → Option Command → Line → ℕ → Work → Type 0
 KeepsToSome p None line at w = ⊥
-KeepsToSome p (Some c) line at w = CarriesOut p c line at w
+KeepsToSome p (Some c) line at w = GoesWith p c line at w
 
 -- a line keeps to the round over the index of a brick, where there is one
 abbrev pub GoesSome : Plan → Option BrickId → Line → Work → Type 0

@@ -1,5 +1,5 @@
 -- A given log is the plan's, though its actors may keep no other rule: each line is what the plan has for that moment.
-use Rattle.std.specs.Prelude.{◌≡◌, ℕ, ◌<◌, ◌≤◌, false, List, Some, length, slice_get}
+use Rattle.std.specs.Prelude.{◌≡◌, ◌⊎◌, ℕ, ◌<◌, ◌≤◌, Bool, true, false, List, Some, length, slice_get}
 use Rattle.afr_base.specs.declared.ids.BrickId.{BrickId}
 use Rattle.afr_lines.specs.Log.{EachLine}
 use Rattle.afr_lines.specs.Work.{Work, work, ended, is_killed}
@@ -21,9 +21,19 @@ abbrev pub CarriesOut : Plan → Command → Line → ℕ → Work → Type 0
 CarriesOut p (command.Rename from to) line at w = KeepsToPaths p from to line w
 CarriesOut p c line at w = KeepsTo p c line at w × AsksThere p line w
 
+-- a line begins or ends a heal
+abbrev pub is_heal_line : Line → Bool
+is_heal_line (HealBegin a g kind) = true
+is_heal_line (HealEnd a g kind reply) = true
+is_heal_line line = false
+
+-- a line of a client's work goes with its command: it carries it out, or says nothing of it, as one that begins or ends a heal
+abbrev pub GoesWith : Plan → Command → Line → ℕ → Work → Type 0
+GoesWith p c line at w = (is_heal_line line ≡ true) ⊎ CarriesOut p c line at w
+
 -- a line is of its actor's present command or round
 pub data IsOfTask (p : Plan) (a : ℕ) (line : Line) (older : List Line) : Type 0 where
-  OfCommand : (c : Command) → slice_get (script_of p a) (ended a older) ≡ Some c → CarriesOut p c line (length older) (work a older) → IsOfTask p a line older
+  OfCommand : (c : Command) → slice_get (script_of p a) (ended a older) ≡ Some c → GoesWith p c line (length older) (work a older) → IsOfTask p a line older
   OfRound : 17 ≤ a → (b : BrickId) → slice_get (rounds_of p a) (ended a older) ≡ Some b → KeepsToTurns p b line (work a older) → IsOfTask p a line older
 
 -- an actor lives, and the line is of its present task

@@ -7,7 +7,7 @@ ghost use Rattle.afr_model.specs.Following.{IsNextEvent, NoneDue};
 ghost use Rattle.afr_trace_follow.specs.Commands.{new_path};
 ghost use Rattle.afr_trace_follow.specs.Following.{GoesSome, HasFewActors, KeepsToSome, is_actor};
 ghost use Rattle.afr_trace_follow.specs.Lists.{AreLists};
-ghost use Rattle.afr_trace_follow.specs.Planned.{CarriesOut, HasMoment, HasTurn, IsOfTask, IsPlanned};
+ghost use Rattle.afr_trace_follow.specs.Planned.{CarriesOut, GoesWith, HasMoment, HasTurn, IsOfTask, IsPlanned, is_heal_line};
 ghost use Rattle.afr_trace_tally.specs.Tally.{IsTally};
 
 use crate::asked::asks_there;
@@ -216,6 +216,37 @@ fn carries_out(
     }
 }
 
+/// Whether a line begins or ends a heal.
+fn is_heal_line(line: &Line) -> bool
+    ensures { result ≡ is_heal_line line.now }
+{
+    match line {
+        Line::HealBegin { .. } => true,
+        Line::HealEnd { .. } => true,
+        _ => false,
+    }
+}
+
+/// Whether a line carries out a command, or says nothing of it.
+fn goes_with(
+    tally: &Tally,
+    plan: &Plan,
+    log: &[Line],
+    a: ActorId,
+    command: &Command,
+    line: &Line,
+) -> bool
+    requires tally { IsTally plan.now (reverse log.now) tally.now }
+    requires few { length log.now < 2147483648 }
+    ensures { (result ≡ true) ↔ GoesWith plan.now command.now line.now (length log.now) (work a.0 (reverse log.now)) }
+{
+    if is_heal_line(line) {
+        true
+    } else {
+        carries_out(tally, plan, log, a, command, line)
+    }
+}
+
 fn keeps_to_some(
     tally: &Tally,
     plan: &Plan,
@@ -229,7 +260,7 @@ fn keeps_to_some(
     ensures { (result ≡ true) ↔ KeepsToSome plan.now (option_copied command.entry) line.now (length log.now) (work a.0 (reverse log.now)) }
 {
     match command {
-        Some(command) => carries_out(tally, plan, log, a, command, line),
+        Some(command) => goes_with(tally, plan, log, a, command, line),
         None => false,
     }
 }
