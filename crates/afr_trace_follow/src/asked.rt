@@ -263,13 +263,7 @@ pub(crate) fn is_dir(due: Option<Gfid>, g: Gfid) -> bool
 }
 
 /// Whether a line that asks a name asks it in a directory: the root, or the one that the name before it gave.
-pub(crate) fn asks_there(
-    tally: &Tally,
-    plan: &Plan,
-    log: &[Line],
-    a: ActorId,
-    line: &Line,
-) -> bool
+pub(crate) fn asks_there(tally: &Tally, plan: &Plan, log: &[Line], a: ActorId, line: &Line) -> bool
     requires tally { IsTally plan.now (reverse log.now) tally.now }
     requires few { length log.now < 2147483648 }
     ensures { (result ≡ true) ↔ AsksThere plan.now line.now (work a.0 (reverse log.now)) }

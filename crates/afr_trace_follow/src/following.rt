@@ -344,7 +344,14 @@ fn has_turn(
 }
 
 /// Whether a line of an actor is its turn, and no event is due.
-fn comes_in_turn(tally: &Tally, plan: &Plan, log: &[Line], lists: &Lists, a: ActorId, line: &Line) -> bool
+fn comes_in_turn(
+    tally: &Tally,
+    plan: &Plan,
+    log: &[Line],
+    lists: &Lists,
+    a: ActorId,
+    line: &Line,
+) -> bool
     requires tally { IsTally plan.now (reverse log.now) tally.now }
     requires lists { AreLists plan.now (reverse log.now) lists.now }
     requires actors { HasFewActors plan.now }

@@ -17,14 +17,7 @@ use afr_trace_tally::Tally;
 use std::alloc::Global;
 
 /// Whether a copy has a number of a kind above 0.
-fn has_number(
-    tally: &Tally,
-    plan: &Plan,
-    log: &[Line],
-    b: BrickId,
-    g: Gfid,
-    kind: Kind,
-) -> bool
+fn has_number(tally: &Tally, plan: &Plan, log: &[Line], b: BrickId, g: Gfid, kind: Kind) -> bool
     requires tally { IsTally plan.now (reverse log.now) tally.now }
     requires brick { b.0 < 5 }
     requires few { length log.now < 2147483648 }
