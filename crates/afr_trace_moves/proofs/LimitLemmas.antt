@@ -1,5 +1,5 @@
 -- Along a log that can be followed each register has room; so can its first lines.
-use Rattle.std.proofs.Common.{Bool, List, [], arith, false, get_or, length, reverse, subst, take, true, ℕ, ◌+◌, ◌<◌, ◌∷◌, ◌≡◌, ◌≤◌, ◌*◌, ◌^◌, ◌-◌}
+use Rattle.std.proofs.Common.{Bool, List, [], arith, false, get_or, length, reverse, subst, sym, take, true, ℕ, ◌+◌, ◌<◌, ◌∷◌, ◌≡◌, ◌≤◌, ◌*◌, ◌^◌, ◌-◌}
 use Rattle.std.proofs.lemmas.List.{length-reverse}
 use Rattle.std.specs.Prelude.{Some, if◌then◌else◌, ◌&&◌, ◌||◌}
 use Rattle.afr_base.specs.declared.ids.Kind.{Kind}
