@@ -8,9 +8,9 @@ returns-then-is_index c = λ list w a b told took e. never _ _ refl (index_again
 
 pub returns-in-Some : goal.returns-in-Some
 returns-in-Some c = λ list w a b told took e.
-    let locked = sym c.in-Some.is ∙ c.object_locked.ensures in
-    as_well c.is_of_heal.result _ _ (heal_locked list w b a c.args.request.now told took c.in-Some.g locked) (c.is_of_heal.ensures list w c.args.request.now e (locked_healed c.args.request.now c.in-Some.g locked))
+    as_well c.is_of_heal.result _ _ (heal_locked list w b a c.args.request.now told took c.in-Some.g c.in-Some.ensures)
+    (c.is_of_heal.ensures list w c.args.request.now e (locked_healed c.args.request.now c.in-Some.g c.in-Some.ensures))
 
 pub returns-in-None : goal.returns-in-None
 returns-in-None c = λ list w a b told took e.
-    as_well c.is_left.result _ _ (heal_on list w b a c.args.request.now told took c.args.due (sym c.is_index.ensures ∙ c.if-is_index.false) (sym c.in-None.is ∙ c.object_locked.ensures) e) c.is_left.ensures
+    as_well c.is_left.result _ _ (heal_on list w b a c.args.request.now told took c.args.due (sym c.is_index.ensures ∙ c.if-is_index.false) c.in-None.ensures e) c.is_left.ensures
