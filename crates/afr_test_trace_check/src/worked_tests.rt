@@ -4,7 +4,7 @@ use crate::built::{ended_by, log_of, plan_of};
 use crate::worked::{
     lost_answer, lost_answer_trace, moved, moved_trace, write_and_read, write_and_read_trace,
 };
-use afr_trace_check::{CheckStop, Finding, check};
+use afr_trace_check::{CheckStop, Finding, Rule, check};
 use afr_trace_moves::{first_unlawful, makes_new_alone};
 use std::alloc::Global;
 use std::test::Fail;
@@ -21,6 +21,21 @@ fn a_worked_trace_keeps_every_rule(rt: HostRuntime) -> Result<(), Fail> {
     assert!(rt; write == Ok(Finding::Yes(33)));
     let heal = found(rt.alloc(), lost_answer(), lost_answer_trace())?;
     assert!(rt; heal == Ok(Finding::Yes(88)));
+    Ok(())
+}
+
+#[test]
+fn another_heal_than_the_next_is_not_planned(rt: HostRuntime) -> Result<(), Fail> {
+    for (text, at, line) in [
+        ("23 h1 b0 lock heal g1[0,end) granted", 23, 23),
+        ("24 h1 b1 lock heal g1[0,end) lost", 24, 24),
+        ("29 h1 begin heal data f1", 29, 29),
+    ] {
+        let trace = ended_by(rt.alloc(), lost_answer_trace(), at, text)?;
+        let other = found(rt.alloc(), lost_answer(), trace.as_str())?;
+        let rule = Rule::Follows;
+        assert!(rt; other == Ok(Finding::No { line, rule }), "{text}");
+    }
     Ok(())
 }
 

@@ -16,13 +16,14 @@ ghost use Rattle.afr_trace_check.specs.Grounds.{IsGrounded, after_last, asks_loc
 ghost use Rattle.afr_trace_tally.specs.Tally.{AreKnown, AsksKnown};
 
 use crate::honest::both;
-use crate::showing::{looked_after, object_of_area};
+use crate::showing::looked_after;
 use crate::told::object_of;
 use afr_base::{ActorId, BrickId, BrickSet, Gfid, Kind, Shape};
 use afr_choice::{Looked, good};
 use afr_lines::{Line, Request, Told};
 use afr_object::Change;
 use afr_plan::Plan;
+use afr_trace_follow::object_of_area;
 use afr_trace_tally::{change_of, is_end, is_of};
 
 // ---- the attempt

@@ -3,7 +3,6 @@ ghost use Rattle.std.specs.Prelude.{◌≡◌, ◌&&◌, ◌||◌, ◌<◌, Bool
 ghost use Rattle.afr_base.specs.declared.ids.Gfid.{Gfid};
 ghost use Rattle.afr_base.specs.declared.ids.Kind.{Kind};
 ghost use Rattle.afr_base.specs.declared.ids.ActorId.{ActorId};
-ghost use Rattle.afr_lines.specs.Areas.{object_of_area};
 ghost use Rattle.afr_choice.specs.Looks.{no_looks, with_look, without_look};
 ghost use Rattle.afr_lines.specs.Work.{is_end, is_of, work};
 ghost use Rattle.afr_lines.specs.declared.line.Line.{Line};
@@ -16,25 +15,16 @@ ghost use Rattle.afr_trace_tally.specs.Tally.{AreKnown, AsksKnown, IsTally};
 use crate::told::view_shown;
 use afr_base::{ActorId, BrickId, Gfid, NoMemory};
 use afr_choice::Looked;
-use afr_lines::{Area, Domain, Line, Request, Told};
+use afr_lines::{Domain, Line, Request, Told};
 use afr_object::{List, NameList, View};
 use afr_plan::Plan;
 use afr_trace_build::Shown;
+use afr_trace_follow::object_of_area;
 use afr_trace_read::{Answered, Doing, Healed, SpelledReply, SpelledRequest, TraceLine};
 use afr_trace_tally::{Tally, is_end, is_of};
 use std::alloc::Global;
 
 // ---- the last looks of a work
-
-/// The object of an area.
-pub(crate) fn object_of_area(area: &Area) -> Gfid
-    ensures { result ≡ object_of_area area.now }
-{
-    match area {
-        Area::Range { gfid, .. } => *gfid,
-        Area::Name { gfid, .. } => *gfid,
-    }
-}
 
 /// Whether the present heal begins anew after the line.
 fn is_border(line: &Line) -> bool

@@ -2,7 +2,7 @@
 use Rattle.std.proofs.Common.{◌≡◌, ◌∙◌, ℕ, zero, suc, ◌≤◌, ◌==◌, ◌%◌, ◌/◌, Bool, true, false, List, [], ◌∷◌, Option, Some, None, length, slice_get, refl, sym, ap, subst, arith, if◌then◌else◌}
 use Rattle.std.specs.Option.{option_map}
 use Rattle.std.specs.Prelude.{is_some}
-use Rattle.std.proofs.lemmas.Option.{some_pair_parts}
+use Rattle.std.proofs.lemmas.Option.{same_Some, some_pair_parts}
 use Rattle.afr_base.specs.declared.ids.ActorId.{ActorId}
 use Rattle.afr_base.specs.declared.ids.BrickId.{BrickId}
 use Rattle.afr_base.specs.declared.ids.Gfid.{Gfid}
@@ -13,11 +13,12 @@ use Rattle.afr_lines.specs.Work.{Work, is_end, is_of, work}
 use Rattle.afr_lines.specs.declared.answer.Told.{Told}
 use Rattle.afr_lines.specs.declared.line.Line.{Line}
 use Rattle.afr_lines.specs.declared.line.Line.TheVariants.{Ask, HealEnd}
+use Rattle.afr_lines.specs.declared.lock.Domain.TheVariants.{Heal}
 use Rattle.afr_lines.specs.declared.request.Request.{Request}
-use Rattle.afr_lines.specs.declared.request.Request.TheVariants.{Index}
-use Rattle.afr_model.specs.Rounds.{due_in, heals_ended, heals_of, kind_within, plus_healed}
+use Rattle.afr_lines.specs.declared.request.Request.TheVariants.{Index, Lock}
+use Rattle.afr_model.specs.Rounds.{IsOfHeal, due_in, heals_ended, heals_of, kind_within, object_healed, plus_healed}
 use Rattle.afr_trace_follow.proofs.PartLemmas.{work_step}
-use Rattle.afr_trace_follow.specs.Healing.{IsHealing, has_line, is_index, nth_heal}
+use Rattle.afr_trace_follow.specs.Healing.{IsHealing, has_line, is_index, nth_heal, object_locked}
 use Rattle.afr_trace_follow.specs.Turns.{AsksIndex, HealsInTurn, KeepsToList}
 use Rattle.afr_trace_follow.specs.declared.rounds.Healing.{Healing}
 
@@ -70,7 +71,7 @@ pub no_index : (b y : BrickId) (a : ActorId) (asked : Request) (told : Told) (to
 no_index b y a Index told took h k = absurd (cc h)
 no_index b y a asked told took h k = k
 
--- it doesn't again, and the others come while a heal is left
+-- it doesn't again, a Heal lock is of the heal that is due, and the others come while a heal is left
 pub index_again : (list : List (Gfid × What)) (w : Work) (b : BrickId) (a : ActorId) (asked : Request) (told : Told) (took : Bool) → is_index asked ≡ true → HealsInTurn list (Ask a b asked told took) w → ⊥
 index_again list w b a Index told took h k = k
 index_again list w b a asked told took h k = absurd (cc h)
@@ -78,10 +79,20 @@ index_again list w b a asked told took h k = absurd (cc h)
 pub left_is : (list : List (Gfid × What)) (w : Work) (due : Option (Gfid × Kind)) → due ≡ due_in list w → (is_some due ≡ true → is_some (due_in list w) ≡ true) × (is_some (due_in list w) ≡ true → is_some due ≡ true)
 left_is list w due e = (λ h. ap (λ (o : Option (Gfid × Kind)). is_some o) (sym e) ∙ h, λ h. ap (λ (o : Option (Gfid × Kind)). is_some o) e ∙ h)
 
-pub heal_on : (list : List (Gfid × What)) (w : Work) (b : BrickId) (a : ActorId) (asked : Request) (told : Told) (took : Bool) (due : Option (Gfid × Kind)) → is_index asked ≡ false → due ≡ due_in list w
+pub heal_on : (list : List (Gfid × What)) (w : Work) (b : BrickId) (a : ActorId) (asked : Request) (told : Told) (took : Bool) (due : Option (Gfid × Kind)) → is_index asked ≡ false → None ≡ object_locked asked → due ≡ due_in list w
     → (is_some due ≡ true → HealsInTurn list (Ask a b asked told took) w) × (HealsInTurn list (Ask a b asked told took) w → is_some due ≡ true)
-heal_on list w b a Index told took due h e = absurd (cc h)
-heal_on list w b a asked told took due h e = left_is list w due e
+heal_on list w b a Index told took due h n e = absurd (cc h)
+heal_on list w b a (Lock Heal area) told took due h n e = absurd (cc n)
+heal_on list w b a asked told took due h n e = left_is list w due e
+
+pub locked_healed : (asked : Request) (g : Gfid) → Some g ≡ object_locked asked → object_healed asked ≡ Some g
+locked_healed (Lock Heal area) g h = sym h
+locked_healed asked g h = absurd (cc h)
+
+pub heal_locked : (list : List (Gfid × What)) (w : Work) (b : BrickId) (a : ActorId) (asked : Request) (told : Told) (took : Bool) (g : Gfid) → Some g ≡ object_locked asked
+    → (IsOfHeal list asked w → HealsInTurn list (Ask a b asked told took) w) × (HealsInTurn list (Ask a b asked told took) w → IsOfHeal list asked w)
+heal_locked list w b a (Lock Heal area) told took g h = (λ k. k, λ k. k)
+heal_locked list w b a asked told took g h = absurd (cc h)
 
 -- the first line of a round, and the later ones
 pub first_line : (b : BrickId) (list : List (Gfid × What)) (line : Line) (w : Work) → has_line w ≡ false → (AsksIndex b line → KeepsToList b list line w) × (KeepsToList b list line w → AsksIndex b line)
@@ -102,3 +113,17 @@ pair_due object g within kind = (λ k. rw (k.0, k.1) refl, λ e. some_pair_parts
 
 pub no_due : (g : Gfid) (kind : Kind) → ◌≡◌ {A = Option (Gfid × Kind)} None (Some (g, kind)) → ⊥
 no_due g kind e = absurd (cc e)
+
+pub heal_here : (list : List (Gfid × What)) (w : Work) (asked : Request) (due : Option (Gfid × Kind)) (object g : Gfid) (kind : Kind) → due ≡ Some (object, kind) → due ≡ due_in list w → object_healed asked ≡ Some g
+    → (object ≡ g → IsOfHeal list asked w) × (IsOfHeal list asked w → object ≡ g)
+heal_here list w asked due object g kind h e about = (
+  λ same. record { object = object; kind = kind; due = sym e ∙ h; about = about ∙ ap Some (sym same) },
+  λ k.
+      let s = some_pair_parts object k.object kind k.kind (sym h ∙ e ∙ k.due) in
+      s.0 ∙ same_Some k.object g (sym k.about ∙ about),
+)
+
+pub no_heal : (list : List (Gfid × What)) (w : Work) (asked : Request) (due : Option (Gfid × Kind)) → due ≡ None → due ≡ due_in list w → IsOfHeal list asked w → ⊥
+no_heal list w asked due h e k =
+    let no : None ≡ Some (k.object, k.kind) = sym h ∙ e ∙ k.due in
+    absurd (cc no)

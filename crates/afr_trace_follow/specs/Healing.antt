@@ -1,14 +1,16 @@
 -- Where a round stands in the heals of its list.
-use Rattle.std.specs.Prelude.{◌≡◌, ℕ, ◌≤◌, ◌==◌, ◌%◌, ◌/◌, Bool, true, false, List, [], ◌∷◌, Option, length, slice_get, if◌then◌else◌}
+use Rattle.std.specs.Prelude.{◌≡◌, ℕ, ◌≤◌, ◌==◌, ◌%◌, ◌/◌, Bool, true, false, List, [], ◌∷◌, Option, Some, None, length, slice_get, if◌then◌else◌}
 use Rattle.std.specs.Option.{option_map}
 use Rattle.afr_base.specs.declared.ids.Gfid.{Gfid}
 use Rattle.afr_base.specs.declared.ids.Kind.{Kind}
 use Rattle.afr_base.specs.declared.ids.Kind.TheVariants.{Attrs}
 use Rattle.afr_base.specs.declared.ids.What.{What}
+use Rattle.afr_lines.specs.Areas.{object_of_area}
 use Rattle.afr_lines.specs.Work.{Work, work}
 use Rattle.afr_lines.specs.declared.line.Line.{Line}
+use Rattle.afr_lines.specs.declared.lock.Domain.TheVariants.{Heal}
 use Rattle.afr_lines.specs.declared.request.Request.{Request}
-use Rattle.afr_lines.specs.declared.request.Request.TheVariants.{Index}
+use Rattle.afr_lines.specs.declared.request.Request.TheVariants.{Index, Lock}
 use Rattle.afr_model.specs.Rounds.{heals_ended, kind_within}
 use Rattle.afr_trace_follow.specs.declared.rounds.Healing.{Healing}
 
@@ -21,6 +23,11 @@ has_line (x ∷ w) = true
 abbrev pub is_index : Request → Bool
 is_index Index = true
 is_index request = false
+
+-- the object that a request locks against other heals
+abbrev pub object_locked : Request → Option Gfid
+object_locked (Lock Heal area) = Some (object_of_area area)
+object_locked request = None
 
 -- whether the present work has a line, and how many heals of it have ended
 pub record IsHealing (a : ℕ) (log : List Line) (x : Healing) : Type 0 where

@@ -5,16 +5,19 @@ use Rattle.afr_base.specs.declared.ids.Gfid.{Gfid}
 use Rattle.afr_base.specs.declared.ids.What.{What}
 use Rattle.afr_lines.specs.Work.{Work}
 use Rattle.afr_lines.specs.declared.line.Line.{Line}
-use Rattle.afr_lines.specs.declared.line.Line.TheVariants.{Ask, Begin, End, HealEnd}
-use Rattle.afr_lines.specs.declared.request.Request.TheVariants.{Index}
-use Rattle.afr_model.specs.Rounds.{due_in}
+use Rattle.afr_lines.specs.declared.line.Line.TheVariants.{Ask, Begin, HealBegin, End, HealEnd}
+use Rattle.afr_lines.specs.declared.lock.Domain.TheVariants.{Heal}
+use Rattle.afr_lines.specs.declared.request.Request.TheVariants.{Index, Lock}
+use Rattle.afr_model.specs.Rounds.{IsOfHeal, due_in}
 use Rattle.afr_plan.specs.declared.plan.Plan.{Plan}
 use Rattle.afr_trace_follow.specs.Marked.{list_of}
 
--- the heals of a list end in their order, then the round ends; until then it does anything else but ask for an index again or begin an attempt
+-- the heals of a list come in their order, then the round ends: a Heal lock is of the object that is due, and a heal begins and ends as the one that is due; until then the round does anything else but ask for an index again or begin an attempt
 abbrev pub HealsInTurn : List (Gfid × What) → Line → Work → Type 0
 HealsInTurn list (Ask a y Index told took) w = ⊥
+HealsInTurn list (Ask a y (Lock Heal area) told took) w = IsOfHeal list (Lock Heal area) w
 HealsInTurn list (Begin a change) w = ⊥
+HealsInTurn list (HealBegin a g kind) w = due_in list w ≡ Some (g, kind)
 HealsInTurn list (HealEnd a g kind reply) w = due_in list w ≡ Some (g, kind)
 HealsInTurn list (End a reply) w = due_in list w ≡ None
 HealsInTurn list line w = is_some (due_in list w) ≡ true

@@ -16,3 +16,4 @@ mod stand;
 
 pub use following::is_following;
 pub use lists::Lists;
+pub use rounds::object_of_area;

@@ -2,16 +2,18 @@
 ghost use Rattle.std.specs.Prelude.{◌≡◌, ◌↔◌, ◌+◌, ◌<◌, ◌≤◌, ◌==◌, ◌^◌, ◌∷◌, Bool, List, None, Some, false, true, is_some, length, reverse, if◌then◌else◌};
 ghost use Rattle.afr_base.specs.declared.ids.ActorId.{ActorId};
 ghost use Rattle.afr_base.specs.declared.ids.BrickId.{BrickId};
+ghost use Rattle.afr_lines.specs.Areas.{object_of_area};
 ghost use Rattle.afr_lines.specs.Work.{Work, is_end, is_of, work};
 ghost use Rattle.afr_lines.specs.declared.answer.Told.{Told};
 ghost use Rattle.afr_lines.specs.declared.line.Line.{Line};
-ghost use Rattle.afr_model.specs.Rounds.{due_in, kind_within, plus_healed};
-ghost use Rattle.afr_trace_follow.specs.Healing.{IsHealing, is_index, nth_heal};
+ghost use Rattle.afr_lines.specs.declared.request.Request.{Request};
+ghost use Rattle.afr_model.specs.Rounds.{IsOfHeal, due_in, kind_within, object_healed, plus_healed};
+ghost use Rattle.afr_trace_follow.specs.Healing.{IsHealing, is_index, nth_heal, object_locked};
 ghost use Rattle.afr_trace_follow.specs.Turns.{AsksIndex, HealsInTurn, KeepsToList};
 
 use crate::facts::{both, same_brick, same_gfid};
 use afr_base::{ActorId, BrickId, Gfid, Kind, What};
-use afr_lines::{Line, Request};
+use afr_lines::{Area, Domain, Line, Request};
 use afr_trace_tally::{is_end, is_of};
 
 // ---- the heals of a list
@@ -121,6 +123,29 @@ fn is_index(request: &Request) -> bool
     }
 }
 
+/// The object of an area.
+pub fn object_of_area(area: &Area) -> Gfid
+    ensures { result ≡ object_of_area area.now }
+{
+    match area {
+        Area::Range { gfid, .. } => *gfid,
+        Area::Name { gfid, .. } => *gfid,
+    }
+}
+
+/// The object that a request locks against other heals.
+fn object_locked(request: &Request) -> Option<Gfid>
+    ensures { result ≡ object_locked request.now }
+{
+    match request {
+        Request::Lock {
+            domain: Domain::Heal,
+            area,
+        } => Some(object_of_area(area)),
+        _ => None,
+    }
+}
+
 fn same_kind(one: Kind, other: Kind) -> bool
     ensures { (result ≡ true) ↔ (one ≡ other) }
 {
@@ -137,6 +162,16 @@ fn is_due(due: Option<(Gfid, Kind)>, g: Gfid, kind: Kind) -> bool
 {
     match due {
         Some((object, within)) => both(same_gfid(object, g), same_kind(within, kind)),
+        None => false,
+    }
+}
+
+/// Whether the heal that is due is of this object.
+fn is_of_heal(due: Option<(Gfid, Kind)>, g: Gfid) -> bool
+    ensures { (list : List (Gfid × What)) (w : Work) (asked : Request) → due ≡ due_in list w → object_healed asked ≡ Some g → (result ≡ true) ↔ IsOfHeal list asked w }
+{
+    match due {
+        Some((object, _)) => same_gfid(object, g),
         None => false,
     }
 }
@@ -181,25 +216,28 @@ fn begins_round(b: BrickId, line: &Line) -> bool
     }
 }
 
-/// Whether a request comes while a heal is left, and doesn't ask for an index again.
+/// Whether a request is a Heal lock of the object that is due, or any other while a heal is left, but one for an index.
 fn heals_on(due: Option<(Gfid, Kind)>, request: &Request) -> bool
     ensures { (list : List (Gfid × What)) (w : Work) (a : ActorId) (b : BrickId) (told : Told) (took : Bool) → due ≡ due_in list w → (result ≡ true) ↔ HealsInTurn list (Line.Ask a b request.now told took) w }
 {
     if is_index(request) {
         false
     } else {
-        is_left(due)
+        match object_locked(request) {
+            Some(g) => is_of_heal(due, g),
+            None => is_left(due),
+        }
     }
 }
 
-/// Whether a line goes on with a round: it ends the heal that is due, ends the round where none is left, or does anything else but ask
-/// for an index again or begin an attempt.
+/// Whether a line goes on with a round: it locks, begins or ends the heal that is due, ends the round where none is left, or does
+/// anything else but ask for an index again or begin an attempt.
 fn heals_in_turn(due: Option<(Gfid, Kind)>, line: &Line) -> bool
     ensures { (list : List (Gfid × What)) (w : Work) → due ≡ due_in list w → (result ≡ true) ↔ HealsInTurn list line.now w }
 {
     match line {
         Line::Ask { request, .. } => heals_on(due, request),
-        Line::HealBegin { .. } => is_left(due),
+        Line::HealBegin { gfid, kind, .. } => is_due(due, *gfid, *kind),
         Line::HealEnd { gfid, kind, .. } => is_due(due, *gfid, *kind),
         Line::End { .. } => is_nothing(due),
         Line::Begin { .. } => false,
