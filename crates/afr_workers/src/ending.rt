@@ -1,0 +1,104 @@
+//! What is left once all threads have ended.
+ghost use Rattle.std.specs.Prelude.{◌≡◌, ◌⊎◌, ◌≤◌, IfOk, length, true};
+ghost use Rattle.afr_rule.specs.Choosing.{IsRule};
+ghost use Rattle.afr_tasks.specs.Exchange.{queued_in};
+ghost use Rattle.afr_workers.specs.Crew.{IsCrawled, IsTriedIn};
+ghost use Rattle.afr_workers.specs.Handed.{handed};
+ghost use Rattle.afr_workers.specs.Workshop.{IsKept, IsShop};
+
+use crate::crew::{SECOND, THIRD};
+use crate::passes::all_passes;
+use crate::stepping::steps;
+use crate::workshop::{Workshop, is_full};
+use afr_base::{ActorId, FIRST_CLIENT, FIRST_HEALER, NoMemory};
+use afr_rule::{Candidate, Rules};
+use afr_volume::Volume;
+use std::sync::Wait;
+
+/// A turn of each actor.
+fn pass<F: Fn(&[Candidate]) -> usize, G: Fn(&[Candidate]) -> usize>(
+    x: &mut Workshop,
+    rules: &Rules<F, G>,
+)
+    requires rule { IsRule F.Fn rules.now.heal }
+    requires read_rule { IsRule G.Fn rules.now.read }
+    requires shop { IsShop x.old }
+    ensures { IsKept x.old x.new }
+{
+    x.volume.every_line();
+    let clients = x.volume.plan().clients.len() as u16;
+    for i in 0..clients {
+        steps(x, ActorId(FIRST_CLIENT + i), rules);
+    }
+    steps(x, ActorId(FIRST_HEALER), rules);
+    steps(x, ActorId(SECOND), rules);
+    steps(x, ActorId(THIRD), rules);
+}
+
+/// Pass after pass, until no task waits, or the log is full, or memory was wanting.
+fn drain<R: Wait, F: Fn(&[Candidate]) -> usize, G: Fn(&[Candidate]) -> usize>(
+    rt: &R,
+    x: &mut Workshop,
+    rules: &Rules<F, G>,
+)
+    requires rule { IsRule F.Fn rules.now.heal }
+    requires read_rule { IsRule G.Fn rules.now.read }
+    requires shop { IsShop x.old }
+    ensures kept { IsKept x.old x.new }
+    ensures over { (x.new.no_memory ≡ true) ⊎ ((length x.new.volume.log ≡ x.new.volume.plan.turns) ⊎ (queued_in x.new.tasks ≡ 0)) }
+{
+    for _ in rt.forever() {
+        if is_drained(x) {
+            return;
+        }
+        pass(x, rules);
+    }
+    unreachable!()
+}
+
+fn is_drained(x: &Workshop) -> bool
+    ensures { result ≡ true → (x.now.no_memory ≡ true) ⊎ ((length x.now.volume.log ≡ x.now.volume.plan.turns) ⊎ (queued_in x.now.tasks ≡ 0)) }
+{
+    x.no_memory || is_full(&x.volume) || x.tasks.queued() == 0
+}
+
+/// Takes the turns that are left: first those of tasks that wait in the queue, and then passes in which items are given that no
+/// thread has put.
+pub(crate) fn finish<R: Wait, F: Fn(&[Candidate]) -> usize, G: Fn(&[Candidate]) -> usize>(
+    rt: &R,
+    shop: Workshop,
+    rules: &Rules<F, G>,
+) -> Result<Volume, (Volume, NoMemory)>
+    requires rule { IsRule F.Fn rules.now.heal }
+    requires read_rule { IsRule G.Fn rules.now.read }
+    requires shop { IsShop shop }
+    ensures plan { (handed result).plan ≡ shop.volume.plan }
+    ensures crawls { (handed result).crawl ≡ true }
+    ensures complete { IfOk result (λ v. IsCrawled v) }
+    ensures tried { IfOk result (λ v. IsTriedIn v) }
+{
+    let mut shop = shop;
+    drain(rt, &mut shop, rules);
+    let Workshop {
+        volume,
+        tasks,
+        crew,
+        no_memory,
+        ..
+    } = shop;
+    if no_memory {
+        return Err((volume, NoMemory));
+    }
+    if is_full(&volume) {
+        return Ok(volume);
+    }
+    tasks.all_are_taken();
+    let mut volume = volume;
+    let mut crew = crew;
+    let passed = all_passes(&mut volume, &mut crew, rules);
+    volume.every_line();
+    match passed {
+        Ok(()) => Ok(volume),
+        Err(stop) => Err((volume, stop)),
+    }
+}
