@@ -4,10 +4,11 @@ use Rattle.afr_lines.specs.Work.{is_killed}
 use Rattle.afr_model.specs.Crawl.{lists_by}
 use Rattle.afr_tasks.proofs.Balances.{weigh_append}
 use Rattle.afr_tasks.specs.Balance.{weigh}
+use Rattle.afr_tasks.specs.Exchange.{queued_in}
 use Rattle.afr_tasks.specs.declared.rule.Task.{Task}
 use Rattle.afr_tasks.specs.declared.rule.Task.TheVariants.{Heal, Stop}
 use Rattle.afr_volume.specs.State.{State}
-use Rattle.afr_workers.specs.Crew.{IsCrew, tasks_given}
+use Rattle.afr_workers.specs.Crew.{IsCrawled, IsCrew, IsTriedIn, tasks_given}
 use Rattle.afr_workers.specs.Cursor.{Item, items_before}
 use Rattle.afr_workers.specs.Workshop.{Given, HasTaken, IsMerge, IsShop, MayPass, Neither, Passed, heal_of, items_among, tasks_put}
 use Rattle.afr_workers.specs.declared.workshop.Workshop.{Workshop}
@@ -63,3 +64,14 @@ crew_of_shop x k taken memory room = record {
       );
 }
 
+-- where memory wasn't wanting, a full log or an empty queue has ended the last passes
+pub drained_of : (x : Workshop) → x.no_memory ≡ false → (x.no_memory ≡ true) ⊎ ((length x.volume.log ≡ x.volume.plan.turns) ⊎ (queued_in x.tasks ≡ 0)) → (length x.volume.log ≡ x.volume.plan.turns) ⊎ (queued_in x.tasks ≡ 0)
+drained_of x memory (inl noted) = absurd (cc (sym noted ∙ memory))
+drained_of x memory (inr over) = over
+
+-- a full log ends a crawl
+pub full_crawled : (s : State) → length s.log ≡ s.plan.turns → IsCrawled s
+full_crawled s full = record { complete = inl full; idle = λ room. absurd (omega (arith, room, full)) }
+
+pub full_tried : (s : State) → length s.log ≡ s.plan.turns → IsTriedIn s
+full_tried s full = λ room. absurd (omega (arith, room, full))

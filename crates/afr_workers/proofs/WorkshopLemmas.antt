@@ -26,6 +26,7 @@ use Rattle.afr_workers.specs.Crew.{IsPlaced, tasks_given}
 use Rattle.afr_workers.specs.Cursor.{ComesNext, IsLast, IsPlace, Item, Lists, items_before}
 use Rattle.afr_workers.specs.Workshop.{Given, GivesItem, HasPut, HasTaken, HasTurned, IsKept, IsMerge, IsOver, IsShop, MayPass, Passed, TakesTask, TookItem, TookNothing, TookStop, heal_of, items_among, number_of, tasks_put, with_task}
 use Rattle.afr_workers.specs.declared.crew.Crew.{Crew}
+use Rattle.afr_workers.specs.declared.workshop.Rests.{Rests}
 use Rattle.afr_workers.specs.declared.workshop.Workshop.{Workshop}
 use Rattle.afr_workers.proofs.CrewLemmas.{Proceeds, assigned_other, assigned_own, assigned_placed, event_proceeds, line_placed, line_proceeds, next_placed, still_lives}
 use Rattle.afr_workers.proofs.PlaceLemmas.{Stays, before_next, before_stays, place_stays}
@@ -378,31 +379,31 @@ taken_item a item old new before after tasks worker noted (inr g) h = record {
   cause = inr g.1;
 }
 
-module _ (x : Workshop) (s : State) (after : Bool) (noted : x.no_memory ≡ true → after ≡ true) (k : IsShop x) (round at : ℕ) where
+module _ (x : Workshop) (s : State) (after : Bool) (noted : x.no_memory ≡ true → after ≡ true) (k : IsShop x) where
   -- nothing was taken, but memory may have been wanting
-  shop_as_it_was : s ≡ x.volume → IsKept x (record x { volume = s; no_memory = after; taken_round = round; taken_at = at })
+  shop_as_it_was : s ≡ x.volume → IsKept x (record x { volume = s; no_memory = after })
   shop_as_it_was same =
-      subst (λ (t : State). IsKept x (record x { volume = t; no_memory = after; taken_round = round; taken_at = at })) (sym same)
+      subst (λ (t : State). IsKept x (record x { volume = t; no_memory = after })) (sym same)
       (record {
         shop = record { placed = k.placed; puts = k.puts; second = taken_noted 18 x.volume x.no_memory after x.tasks.second noted k.second; third = taken_noted 19 x.volume x.no_memory after x.tasks.third noted k.third };
         plan = refl;
       })
 
-  shop_took_stop : (worker : Worker) → s ≡ x.volume → IsKept x (record x { volume = s; tasks = with_taken worker Stop x.tasks; no_memory = after; taken_round = round; taken_at = at })
+  shop_took_stop : (worker : Worker) → s ≡ x.volume → IsKept x (record x { volume = s; tasks = with_taken worker Stop x.tasks; no_memory = after })
   shop_took_stop Second same =
-      subst (λ (t : State). IsKept x (record x { volume = t; tasks = with_taken Second Stop x.tasks; no_memory = after; taken_round = round; taken_at = at })) (sym same)
+      subst (λ (t : State). IsKept x (record x { volume = t; tasks = with_taken Second Stop x.tasks; no_memory = after })) (sym same)
       (record {
         shop = record { placed = k.placed; puts = k.puts; second = taken_stop 18 x.volume after x.tasks.second (taken_noted 18 x.volume x.no_memory after x.tasks.second noted k.second); third = taken_noted 19 x.volume x.no_memory after x.tasks.third noted k.third };
         plan = refl;
       })
   shop_took_stop Third same =
-      subst (λ (t : State). IsKept x (record x { volume = t; tasks = with_taken Third Stop x.tasks; no_memory = after; taken_round = round; taken_at = at })) (sym same)
+      subst (λ (t : State). IsKept x (record x { volume = t; tasks = with_taken Third Stop x.tasks; no_memory = after })) (sym same)
       (record {
         shop = record { placed = k.placed; puts = k.puts; second = taken_noted 18 x.volume x.no_memory after x.tasks.second noted k.second; third = taken_stop 19 x.volume after x.tasks.third (taken_noted 19 x.volume x.no_memory after x.tasks.third noted k.third) };
         plan = refl;
       })
 
-  shop_took_item : (worker : Worker) (item : Item) → GivesItem (number_of worker) item x.volume s after → IsKept x (record x { volume = s; tasks = with_taken worker (heal_of item) x.tasks; no_memory = after; taken_round = round; taken_at = at })
+  shop_took_item : (worker : Worker) (item : Item) → GivesItem (number_of worker) item x.volume s after → IsKept x (record x { volume = s; tasks = with_taken worker (heal_of item) x.tasks; no_memory = after })
   shop_took_item Second item g = record {
     shop = record {
       placed = gives_placed 18 item x.volume s after x.crew second g k.placed;
@@ -422,11 +423,10 @@ module _ (x : Workshop) (s : State) (after : Bool) (noted : x.no_memory ≡ true
     plan = gives_plan 19 item x.volume s after g;
   }
 
-pub shop_took : (x : Workshop) (s : State) (tasks : Exchange) (after : Bool) (round at : ℕ) (worker : Worker) → TakesTask worker x.volume s after x.tasks tasks → (x.no_memory ≡ true → after ≡ true) → IsShop x
-    → IsKept x (record x { volume = s; tasks = tasks; no_memory = after; taken_round = round; taken_at = at })
-shop_took x s _ after round at worker (TookNothing same) noted k = shop_as_it_was x s after noted k round at same
-shop_took x s _ after round at worker (TookStop same) noted k = shop_took_stop x s after noted k round at worker same
-shop_took x s _ after round at worker (TookItem item g) noted k = shop_took_item x s after noted k round at worker item g
+pub shop_took : (x : Workshop) (s : State) (tasks : Exchange) (after : Bool) (worker : Worker) → TakesTask worker x.volume s after x.tasks tasks → (x.no_memory ≡ true → after ≡ true) → IsShop x → IsKept x (record x { volume = s; tasks = tasks; no_memory = after })
+shop_took x s _ after worker (TookNothing same) noted k = shop_as_it_was x s after noted k same
+shop_took x s _ after worker (TookStop same) noted k = shop_took_stop x s after noted k worker same
+shop_took x s _ after worker (TookItem item g) noted k = shop_took_item x s after noted k worker item g
 
 -- a task leaves the events that are due
 pub took_due : (worker : Worker) (old new : State) (no_memory : Bool) (before tasks : Exchange) → TakesTask worker old new no_memory before tasks → due_of old ≡ None → due_of new ≡ None
@@ -439,18 +439,10 @@ pub is_worker : (worker : Worker) (a : ℕ) → a ≡ number_of worker → IsWor
 is_worker Second a e = (omega (arith, e), omega (arith, e))
 is_worker Third a e = (omega (arith, e), omega (arith, e))
 
--- who rests, and that some actor has no thread, is beside the facts
-pub shop_rests : (x y : Workshop) → y.volume ≡ x.volume → y.tasks ≡ x.tasks → y.crew ≡ x.crew → y.stops ≡ x.stops → y.no_memory ≡ x.no_memory → IsShop x → IsShop y
-shop_rests x y volume tasks crew stops no_memory k = record {
-  placed = subst (λ (c : Crew). IsPlaced c y.volume) (sym crew) (subst (IsPlaced x.crew) (sym volume) k.placed);
-  puts =
-      subst (λ (t : Exchange). HasPut y.volume y.crew.round y.crew.at y.stops t.put) (sym tasks)
-      (subst (λ (n : ℕ). HasPut y.volume y.crew.round y.crew.at n x.tasks.put) (sym stops)
-      (subst (λ (c : Crew). HasPut y.volume c.round c.at x.stops x.tasks.put) (sym crew) (subst (λ (s : State). HasPut s x.crew.round x.crew.at x.stops x.tasks.put) (sym volume) k.puts)));
-  second = taken 18 x.tasks.second y.tasks.second (ap (λ (t : Exchange). t.second) tasks) k.second;
-  third = taken 19 x.tasks.third y.tasks.third (ap (λ (t : Exchange). t.third) tasks) k.third;
-}
-  where
-    taken : (a : ℕ) (before now : List Task) → now ≡ before → HasTaken a x.volume x.no_memory before → HasTaken a y.volume y.no_memory now
-    taken a before now same h =
-        subst (HasTaken a y.volume y.no_memory) (sym same) (subst (λ (noted : Bool). HasTaken a y.volume noted before) (sym no_memory) (subst (λ (s : State). HasTaken a s x.no_memory before) (sym volume) h))
+-- who rests is beside the facts
+pub shop_rested : (x : Workshop) (rests : Rests) → IsShop x → IsKept x (record x { rests = rests })
+shop_rested x rests k = record { shop = record { placed = k.placed; puts = k.puts; second = k.second; third = k.third }; plan = refl }
+
+-- so is that some actor has no thread
+pub shop_short : (x : Workshop) (short : Bool) → IsShop x → IsShop (record x { is_short = short })
+shop_short x short k = record { placed = k.placed; puts = k.puts; second = k.second; third = k.third }

@@ -74,6 +74,10 @@ pub record IsBegun (s : State) : Type 0 where
   pub second : tasks_given 18 s ≡ []
   pub third : tasks_given 19 s ≡ []
 
+-- the actors of a plan with so many clients
+abbrev pub AreActors : ℕ → List ActorId → Type 0
+AreActors clients actors = (i : ℕ) (a : ActorId) → slice_get actors i ≡ Some a → ((1 ≤ a.0) × (a.0 ≤ clients)) ⊎ ((17 ≤ a.0) × (a.0 ≤ 19))
+
 -- ---- steps
 -- an actor's turn was taken, or nothing has changed
 abbrev pub HasTurned : ActorId → State → State → Type 0

@@ -1,12 +1,10 @@
 //! A crawl by threads: one for each client, one for the crawler, and one for each worker.
-ghost use Rattle.std.specs.Prelude.{◌≡◌, ◌⊎◌, ◌≤◌, ℕ, IfOk, IfErr, Some, [], length, slice_get, true};
-ghost use Rattle.afr_base.specs.declared.ids.ActorId.{ActorId};
-ghost use Rattle.afr_model.specs.Actors.{IsActor};
+ghost use Rattle.std.specs.Prelude.{◌≡◌, ◌≤◌, IfOk, IfErr, [], true};
 ghost use Rattle.afr_rule.specs.Choosing.{IsRule};
 ghost use Rattle.afr_volume.specs.Right.{IsRightFor};
 ghost use Rattle.afr_workers.specs.Crew.{IsCrawled, IsTriedIn};
 ghost use Rattle.afr_workers.specs.Handed.{handed};
-ghost use Rattle.afr_workers.specs.Workshop.{IsBegun, IsShop};
+ghost use Rattle.afr_workers.specs.Workshop.{AreActors, IsBegun, IsShop};
 
 use crate::crew::Crew;
 use crate::ending::finish;
@@ -46,7 +44,7 @@ struct Shared<J: Named> {
 impl<J: Named> Model for Shared<J> {
     ghost use Rattle.std.specs.Prelude.{◌≡◌};
     ghost use Rattle.afr_volume.specs.State.{State};
-    ghost use Rattle.afr_workers.specs.Workshop.{IsBegun, IsShop};
+    ghost use Rattle.afr_workers.specs.Workshop.{IsShop};
 
     ghost Value = { State };
 
@@ -66,7 +64,7 @@ impl<J: Named> Shared<J> {
         }
     }
 
-    fn shop(self) -> Workshop
+    fn into_shop(self) -> Workshop
         ensures shop { IsShop result }
         ensures plan { result.volume.plan ≡ J.plan }
     {
@@ -114,8 +112,6 @@ fn opened(alloc: Global, volume: Volume) -> Result<Workshop, (Volume, NoMemory)>
         tasks,
         crew,
         stops: 0,
-        taken_round: 0,
-        taken_at: 0,
         held: Held::new(),
         rests: Rests {
             crawler: false,
@@ -130,7 +126,7 @@ fn opened(alloc: Global, volume: Volume) -> Result<Workshop, (Volume, NoMemory)>
 /// The clients, the crawler and the workers.
 fn all_actors(alloc: Global, clients: u16) -> Result<Vec<ActorId>, NoMemory>
     requires { clients ≤ 16 }
-    ensures { IfOk result (λ actors. (i : ℕ) (a : ActorId) → slice_get actors.items i ≡ Some a → ((1 ≤ a.0) × (a.0 ≤ clients)) ⊎ ((17 ≤ a.0) × (a.0 ≤ 19))) }
+    ensures { IfOk result (λ actors. AreActors clients actors.items) }
 {
     let mut actors = Vec::new(alloc);
     for i in 0..clients {
@@ -213,14 +209,41 @@ fn crawl_as<
     volume.every_line();
     let mut volume = volume;
     let ordered = take_client_orders(&mut volume, rules);
-    let Ok(_) = ordered else {
-        return Err((volume, NoMemory));
-    };
+    match ordered {
+        Ok(_) => by_threads::<J, R, F, G, H>(rt, alloc, volume, rules, gate),
+        Err(stop) => Err((volume, stop)),
+    }
+}
+
+/// What follows the orders.
+fn by_threads<
+    J: Named + Send + Sync,
+    R: Threads + Wait + Sync,
+    F: Fn(&[Candidate]) -> usize + Sync,
+    G: Fn(&[Candidate]) -> usize + Sync,
+    H: Gate + Sync,
+>(
+    rt: &R,
+    alloc: Global,
+    volume: Volume,
+    rules: &Rules<F, G>,
+    gate: &H,
+) -> Result<Volume, (Volume, NoMemory)>
+    requires rule { IsRule F.Fn rules.now.heal }
+    requires read_rule { IsRule G.Fn rules.now.read }
+    requires name { volume.plan ≡ J.plan }
+    requires begun { IsBegun volume }
+    ensures plan { (handed result).plan ≡ volume.plan }
+    ensures crawls { (handed result).crawl ≡ true }
+    ensures complete { IfOk result (λ v. IsCrawled v) }
+    ensures tried { IfOk result (λ v. IsTriedIn v) }
+{
+    volume.every_line();
     let clients = volume.plan().clients.len() as u16;
     let Ok(actors) = all_actors(alloc, clients) else {
         return Err((volume, NoMemory));
     };
     let shop = opened(alloc, volume)?;
     let shared: Shared<J> = run_crowd(rt, Shared::new(shop), actors.as_slice(), rules, gate);
-    finish(rt, shared.shop(), rules)
+    finish(rt, shared.into_shop(), rules)
 }

@@ -24,9 +24,6 @@ pub(crate) struct Workshop {
     pub(crate) crew: Crew,
     /// How many stops were put after all items.
     pub(crate) stops: u8,
-    /// The place of the item that is taken next.
-    pub(crate) taken_round: u32,
-    pub(crate) taken_at: usize,
     pub(crate) held: Held,
     /// Who found at its last turn that it can do nothing: the crawler a queue that takes no task, a worker one that has none.
     pub(crate) rests: Rests,

@@ -1,6 +1,5 @@
-use Rattle.std.proofs.Common.{refl}
-use Rattle.afr_workers.proofs.WorkshopLemmas.{shop_rests}
+use Rattle.afr_workers.proofs.WorkshopLemmas.{shop_rested}
 use Rattle.afr_workers.proofs.putting.rest.Goals as goal
 
 pub returns : goal.returns
-returns c = record { shop = shop_rests c.args.x.now _ refl refl refl refl refl c.requires; plan = refl }
+returns c = shop_rested c.args.x.now (record c.args.x.now.rests { crawler = true }) c.requires

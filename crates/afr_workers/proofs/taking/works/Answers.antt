@@ -1,5 +1,4 @@
 -- A worker goes on with its task, or takes one, or rests.
-use Rattle.std.proofs.Common.{refl}
 use Rattle.afr_workers.proofs.PassLemmas.{worker_actor}
 use Rattle.afr_workers.proofs.WorkshopLemmas.{is_worker, kept_then}
 use Rattle.afr_workers.proofs.taking.works.Goals as goal
@@ -10,23 +9,24 @@ can_go_on-requires g c = worker_actor c.args.x.now.volume.plan c.args.a.0 c.requ
 pub turns-requires-clause-actor : goal.turns-requires-clause-actor
 turns-requires-clause-actor g c = worker_actor c.args.x.now.volume.plan c.args.a.0 c.requires.shop.placed.can (is_worker c.args.worker c.args.a.0 c.requires.worker)
 
-pub take-requires-clause-idle : goal.take-requires-clause-idle
-take-requires-clause-idle g c = c.can_go_on.ensures c.if-can_go_on.false
+pub take-took-requires-clause-idle : goal.take-took-requires-clause-idle
+take-took-requires-clause-idle g c = c.can_go_on.ensures c.if-can_go_on.false
+
+pub note_found-requires : goal.note_found-requires
+note_found-requires g c = c.take-took.ensures.kept.shop
 
 pub turns-requires-2-clause-actor : goal.turns-requires-2-clause-actor
-turns-requires-2-clause-actor g c = worker_actor c.take-took.new.x.volume.plan c.args.a.0 c.take-took.ensures.kept.shop.placed.can (is_worker c.args.worker c.args.a.0 c.requires.worker)
+turns-requires-2-clause-actor g c = worker_actor c.note_found.new.x.volume.plan c.args.a.0 c.note_found.ensures.kept.shop.placed.can (is_worker c.args.worker c.args.a.0 c.requires.worker)
 
 pub turns-requires-2-clause-none : goal.turns-requires-2-clause-none
-turns-requires-2-clause-none g c = c.take-took.ensures.due c.requires.none
+turns-requires-2-clause-none g c = rw c.note_found.ensures.volume (c.take-took.ensures.due c.requires.none)
 
 pub turns-requires-2-clause-shop : goal.turns-requires-2-clause-shop
-turns-requires-2-clause-shop g c = c.take-took.ensures.kept.shop
-
-pub rest-requires : goal.rest-requires
-rest-requires g c = c.take-took.ensures.kept.shop
+turns-requires-2-clause-shop g c = c.note_found.ensures.kept.shop
 
 pub returns-then-eq : goal.returns-then-eq
-returns-then-eq g c = kept_then c.args.x.now c.take-took.new.x c.turns-2.new.x c.take-took.ensures.kept c.turns-2.ensures
+returns-then-eq g c =
+    kept_then c.args.x.now c.take-took.new.x c.turns-2.new.x c.take-took.ensures.kept (kept_then c.take-took.new.x c.note_found.new.x c.turns-2.new.x c.note_found.ensures.kept c.turns-2.ensures)
 
 pub returns : goal.returns
-returns g c = kept_then c.args.x.now c.take-took.new.x c.rest.new.x c.take-took.ensures.kept c.rest.ensures
+returns g c = kept_then c.args.x.now c.take-took.new.x c.note_found.new.x c.take-took.ensures.kept c.note_found.ensures.kept
