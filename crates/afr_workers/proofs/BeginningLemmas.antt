@@ -15,7 +15,7 @@ use Rattle.afr_volume.specs.declared.turned.Turned.{Turned}
 use Rattle.afr_volume.specs.declared.turned.Turned.TheVariants.{Ended, Full, Moved, Waits}
 use Rattle.afr_workers.specs.Crew.{IsCrew, IsPlaced, tasks_given}
 use Rattle.afr_workers.specs.Cursor.{Item, Lists, items_before, items_below}
-use Rattle.afr_workers.specs.Workshop.{AreActors, HasTaken, IsBegun, IsMerge, IsShop, Neither, items_among, tasks_put}
+use Rattle.afr_workers.specs.Workshop.{AreActors, HasTaken, IsBegun, IsMerge, IsOneOf, IsShop, Neither, items_among, tasks_put}
 use Rattle.afr_workers.specs.declared.crew.Crew.{Crew}
 use Rattle.afr_workers.specs.declared.workshop.Workshop.{Workshop}
 use Rattle.afr_workers.proofs.CrewLemmas.{event_proceeds, line_proceeds}
@@ -83,9 +83,12 @@ shop_begins x b tasks crew stops = record {
     }
 
 -- ---- actors
+pub none_are : (clients : ℕ) → AreActors clients []
+none_are clients i a e = absurd (cc e)
+
 -- one more
-pub one_actor_more : (clients : ℕ) (actors : List ActorId) (x : ActorId) → AreActors clients actors → ((1 ≤ x.0) × (x.0 ≤ clients)) ⊎ ((17 ≤ x.0) × (x.0 ≤ 19)) → AreActors clients (actors ++ x ∷ [])
-one_actor_more clients [] x all own zero a e = let same : x ≡ a = cc e in subst (λ (y : ActorId). ((1 ≤ y.0) × (y.0 ≤ clients)) ⊎ ((17 ≤ y.0) × (y.0 ≤ 19))) same own
+pub one_actor_more : (clients : ℕ) (actors : List ActorId) (x : ActorId) → AreActors clients actors → IsOneOf clients x.0 → AreActors clients (actors ++ x ∷ [])
+one_actor_more clients [] x all own zero a e = let same : x ≡ a = cc e in subst (λ (y : ActorId). IsOneOf clients y.0) same own
 one_actor_more clients [] x all own (suc i) a e = absurd (cc e)
 one_actor_more clients (y ∷ actors) x all own zero a e = all 0 a e
 one_actor_more clients (y ∷ actors) x all own (suc i) a e = one_actor_more clients actors x (λ j b f. all (suc j) b f) own i a e
@@ -94,6 +97,6 @@ one_actor_more clients (y ∷ actors) x all own (suc i) a e = one_actor_more cli
 pub are_actors : (p q : Plan) (clients : ℕ) (actors : List ActorId) → p ≡ q → CanCrawl p → clients ≡ length p.clients → AreActors clients actors → (i : ℕ) (a : ActorId) → slice_get actors i ≡ Some a → IsActor q a.0
 are_actors p q clients actors same can count all i a e = subst (λ (r : Plan). IsActor r a.0) same (by (all i a e))
   where
-    by : ((1 ≤ a.0) × (a.0 ≤ clients)) ⊎ ((17 ≤ a.0) × (a.0 ≤ 19)) → IsActor p a.0
+    by : IsOneOf clients a.0 → IsActor p a.0
     by (inl client) = (let low = client.0 in let high = client.1 in Client (omega (arith, low)) (omega (arith, high, count)))
     by (inr healer) = (let many = can.healers in let low = healer.0 in let high = healer.1 in Healer (omega (arith, low)) (omega (arith, high, many)))

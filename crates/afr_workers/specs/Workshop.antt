@@ -74,9 +74,12 @@ pub record IsBegun (s : State) : Type 0 where
   pub second : tasks_given 18 s ≡ []
   pub third : tasks_given 19 s ≡ []
 
--- the actors of a plan with so many clients
+-- an actor of a plan with so many clients and three healers
+abbrev pub IsOneOf : ℕ → ℕ → Type 0
+IsOneOf clients a = ((1 ≤ a) × (a ≤ clients)) ⊎ ((17 ≤ a) × (a ≤ 19))
+
 abbrev pub AreActors : ℕ → List ActorId → Type 0
-AreActors clients actors = (i : ℕ) (a : ActorId) → slice_get actors i ≡ Some a → ((1 ≤ a.0) × (a.0 ≤ clients)) ⊎ ((17 ≤ a.0) × (a.0 ≤ 19))
+AreActors clients actors = (i : ℕ) (a : ActorId) → slice_get actors i ≡ Some a → IsOneOf clients a.0
 
 -- ---- steps
 -- an actor's turn was taken, or nothing has changed

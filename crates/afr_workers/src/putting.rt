@@ -1,5 +1,6 @@
 //! The crawler puts the items that it was given, and at its end two stops.
-ghost use Rattle.std.specs.Prelude.{◌≡◌, ◌⊎◌, ◌+◌, ◌<◌, ◌^◌, ◌++◌, ◌∷◌, [], None};
+ghost use Rattle.std.specs.Prelude.{◌≡◌, ◌⊎◌, ◌+◌, ◌<◌, ◌^◌, ◌++◌, ◌∷◌, [], None, true};
+ghost use Rattle.afr_model.specs.Actors.{IsActor};
 ghost use Rattle.afr_model.specs.Crawl.{lists_by};
 ghost use Rattle.afr_rule.specs.Choosing.{IsRule};
 ghost use Rattle.afr_volume.specs.Turning.{due_of};
@@ -13,6 +14,7 @@ use afr_base::{ActorId, FIRST_HEALER};
 use afr_crowd::Step;
 use afr_rule::{Candidate, Rules};
 use afr_tasks::{MOST_TASKS, Task, Tasks};
+use afr_volume::Volume;
 
 /// Puts this item, where the queue takes it.
 fn put_item(tasks: &mut Tasks, crew: &mut Crew, next: Next) -> bool
@@ -99,16 +101,22 @@ fn put_stops(x: &mut Workshop) -> Step
     rest(x)
 }
 
-/// The crawler rests, or ends where it has put all or some actor has no thread.
+/// What it means for the crawler's thread that it rests with so many stops put: it ends where it has put all, or where some
+/// actor has no thread.
+fn after_rest(stops: u8, is_short: bool) -> Step {
+    Step {
+        goes: stops < 2 && !is_short,
+        wakes: true,
+    }
+}
+
+/// The crawler rests, or ends.
 fn rest(x: &mut Workshop) -> Step
     requires { IsShop x.old }
     ensures { IsKept x.old x.new }
 {
     x.rests.crawler = true;
-    Step {
-        goes: x.stops < 2 && !x.is_short,
-        wakes: true,
-    }
+    after_rest(x.stops, x.is_short)
 }
 
 /// The end of a crawler that is given no list any more: it puts what is left, and then two stops.
@@ -123,6 +131,17 @@ fn end_puts(x: &mut Workshop) -> Step
     put_stops(x)
 }
 
+/// Whether the crawler is given no list any more.
+fn is_over(volume: &Volume) -> bool
+    requires { IsActor volume.now.plan 17 }
+    ensures { result ≡ true → IsOver volume.now }
+{
+    if volume.is_done(ActorId(FIRST_HEALER)) {
+        return true;
+    }
+    is_full(volume)
+}
+
 /// A turn of the crawler: it puts what can be put, and adds a line, or ends.
 pub(crate) fn crawls<F: Fn(&[Candidate]) -> usize, G: Fn(&[Candidate]) -> usize>(
     x: &mut Workshop,
@@ -135,10 +154,7 @@ pub(crate) fn crawls<F: Fn(&[Candidate]) -> usize, G: Fn(&[Candidate]) -> usize>
     ensures { IsKept x.old x.new }
 {
     put_all(x);
-    if x.volume.is_done(ActorId(FIRST_HEALER)) {
-        return end_puts(x);
-    }
-    if is_full(&x.volume) {
+    if is_over(&x.volume) {
         return end_puts(x);
     }
     turns(x, ActorId(FIRST_HEALER), rules)

@@ -64,6 +64,14 @@ fn may_wake(x: &Workshop, before: u32, events: u32, queued: usize) -> bool {
     events > before || x.tasks.queued() != queued || is_full(&x.volume)
 }
 
+/// What a turn has come to, also where it wakes for another cause.
+fn with_wakes(step: Step, wakes: bool) -> Step {
+    Step {
+        goes: step.goes,
+        wakes: step.wakes || wakes,
+    }
+}
+
 /// The events that are due, and then a turn of an actor. Where memory was wanting, every thread ends; and a thread whose actor
 /// is held, which comes here only where some actor has no thread.
 pub(crate) fn steps<F: Fn(&[Candidate]) -> usize, G: Fn(&[Candidate]) -> usize>(
@@ -87,10 +95,7 @@ pub(crate) fn steps<F: Fn(&[Candidate]) -> usize, G: Fn(&[Candidate]) -> usize>(
     }
     let after_events = x.volume.len();
     let step = acts(x, a, rules);
-    Step {
-        goes: step.goes,
-        wakes: step.wakes || may_wake(x, before, after_events, queued),
-    }
+    with_wakes(step, may_wake(x, before, after_events, queued))
 }
 
 /// Whether a worker has found no task and none was put since, or the crawler has found the queue full and nothing was taken

@@ -1,10 +1,10 @@
 //! A crawl by threads: one for each client, one for the crawler, and one for each worker.
-ghost use Rattle.std.specs.Prelude.{◌≡◌, ◌≤◌, IfOk, IfErr, [], true};
+ghost use Rattle.std.specs.Prelude.{◌≡◌, ◌<◌, IfOk, IfErr, OnOk, [], true};
 ghost use Rattle.afr_rule.specs.Choosing.{IsRule};
 ghost use Rattle.afr_volume.specs.Right.{IsRightFor};
 ghost use Rattle.afr_workers.specs.Crew.{IsCrawled, IsTriedIn};
 ghost use Rattle.afr_workers.specs.Handed.{handed};
-ghost use Rattle.afr_workers.specs.Workshop.{AreActors, IsBegun, IsShop};
+ghost use Rattle.afr_workers.specs.Workshop.{AreActors, IsBegun, IsOneOf, IsShop};
 
 use crate::crew::Crew;
 use crate::ending::finish;
@@ -123,21 +123,46 @@ fn opened(alloc: Global, volume: Volume) -> Result<Workshop, (Volume, NoMemory)>
     })
 }
 
+/// One actor more.
+fn push_actor(actors: &mut Vec<ActorId>, clients: u16, a: ActorId) -> Result<(), NoMemory>
+    requires all { AreActors clients actors.old.items }
+    requires own { IsOneOf clients a.0 }
+    ensures { OnOk result (AreActors clients actors.new.items) }
+{
+    match actors.push(a) {
+        Ok(()) => Ok(()),
+        Err(_) => Err(NoMemory),
+    }
+}
+
+/// One client more.
+fn push_client(actors: &mut Vec<ActorId>, clients: u16, i: u16) -> Result<(), NoMemory>
+    requires all { AreActors clients actors.old.items }
+    requires within { i < clients }
+    ensures { OnOk result (AreActors clients actors.new.items) }
+{
+    push_actor(actors, clients, ActorId(FIRST_CLIENT + i))
+}
+
+/// The crawler, or a worker.
+fn push_healer(actors: &mut Vec<ActorId>, clients: u16, i: u16) -> Result<(), NoMemory>
+    requires all { AreActors clients actors.old.items }
+    requires within { i < 3 }
+    ensures { OnOk result (AreActors clients actors.new.items) }
+{
+    push_actor(actors, clients, ActorId(FIRST_HEALER + i))
+}
+
 /// The clients, the crawler and the workers.
 fn all_actors(alloc: Global, clients: u16) -> Result<Vec<ActorId>, NoMemory>
-    requires { clients ≤ 16 }
     ensures { IfOk result (λ actors. AreActors clients actors.items) }
 {
     let mut actors = Vec::new(alloc);
     for i in 0..clients {
-        let Ok(()) = actors.push(ActorId(FIRST_CLIENT + i)) else {
-            return Err(NoMemory);
-        };
+        push_client(&mut actors, clients, i)?;
     }
     for i in 0..MOST_HEALERS {
-        let Ok(()) = actors.push(ActorId(FIRST_HEALER + i)) else {
-            return Err(NoMemory);
-        };
+        push_healer(&mut actors, clients, i)?;
     }
     Ok(actors)
 }

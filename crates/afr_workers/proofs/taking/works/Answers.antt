@@ -15,18 +15,18 @@ take-took-requires-clause-idle g c = c.can_go_on.ensures c.if-can_go_on.false
 pub note_found-requires : goal.note_found-requires
 note_found-requires g c = c.take-took.ensures.kept.shop
 
-pub turns-requires-2-clause-actor : goal.turns-requires-2-clause-actor
-turns-requires-2-clause-actor g c = worker_actor c.note_found.new.x.volume.plan c.args.a.0 c.note_found.ensures.kept.shop.placed.can (is_worker c.args.worker c.args.a.0 c.requires.worker)
+pub turns-requires-then-eq-clause-actor : goal.turns-requires-then-eq-clause-actor
+turns-requires-then-eq-clause-actor g c = worker_actor c.note_found.new.x.volume.plan c.args.a.0 c.note_found.ensures.kept.shop.placed.can (is_worker c.args.worker c.args.a.0 c.requires.worker)
 
-pub turns-requires-2-clause-none : goal.turns-requires-2-clause-none
-turns-requires-2-clause-none g c = rw c.note_found.ensures.volume (c.take-took.ensures.due c.requires.none)
+pub turns-requires-then-eq-clause-none : goal.turns-requires-then-eq-clause-none
+turns-requires-then-eq-clause-none g c = rw c.note_found.ensures.volume (c.take-took.ensures.due c.requires.none)
 
-pub turns-requires-2-clause-shop : goal.turns-requires-2-clause-shop
-turns-requires-2-clause-shop g c = c.note_found.ensures.kept.shop
+pub turns-requires-then-eq-clause-shop : goal.turns-requires-then-eq-clause-shop
+turns-requires-then-eq-clause-shop g c = c.note_found.ensures.kept.shop
 
 pub returns-then-eq : goal.returns-then-eq
 returns-then-eq g c =
-    kept_then c.args.x.now c.take-took.new.x c.turns-2.new.x c.take-took.ensures.kept (kept_then c.take-took.new.x c.note_found.new.x c.turns-2.new.x c.note_found.ensures.kept c.turns-2.ensures)
+    kept_then c.args.x.now c.take-took.new.x c.turns-then-eq.new.x c.take-took.ensures.kept (kept_then c.take-took.new.x c.note_found.new.x c.turns-then-eq.new.x c.note_found.ensures.kept c.turns-then-eq.ensures)
 
 pub returns : goal.returns
 returns g c = kept_then c.args.x.now c.take-took.new.x c.note_found.new.x c.take-took.ensures.kept c.note_found.ensures.kept
