@@ -1,6 +1,4 @@
-//! Worked logs that the laws speak of.
+//! Samples of logs that keep the laws, and of logs that come near.
 #![tactic(auto)]
 
 mod promises_tests;
-#[cfg(test)]
-mod tests;

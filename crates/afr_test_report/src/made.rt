@@ -213,6 +213,7 @@ pub fn split_and_heals(alloc: Global) -> Result<Vec<Line>, NoMemory> {
         heal_end(18, Kind::Names, HealReply::Failed),
         heal_end(17, Kind::Bytes, HealReply::Busy(ActorId(18))),
         heal_end(17, Kind::Names, HealReply::Moved(BrickId(1))),
+        heal_end(17, Kind::Attrs, HealReply::Settled),
         end(17, Reply::Ok(Good::Done)),
         heal_end(17, Kind::Names, HealReply::Short),
     ];

@@ -1,15 +1,14 @@
-//! Summaries: a refusal, a split object, what healers write, and whole worked logs.
+//! Summaries: a refusal, a split object, and what healers write.
 
 use crate::made::{dead_and_short, plan_of, split_and_heals, two_readers, two_rounds};
 use crate::reported::summarizes;
-use afr_check_logs::{Worked, log_of, plan_of as worked_plan};
-use afr_check_tables::Unfit;
+use afr_base::NoMemory;
 use afr_object::List;
 use std::alloc::Global;
 use std::test::Fail;
 
 /// The client that was killed had one answer before, a refusal.
-fn counts_a_refusal(alloc: Global) -> Result<bool, Unfit> {
+fn counts_a_refusal(alloc: Global) -> Result<bool, NoMemory> {
     let plan = plan_of(alloc, true, two_readers(alloc)?, List::new(alloc))?;
     summarizes(
         alloc,
@@ -19,26 +18,15 @@ fn counts_a_refusal(alloc: Global) -> Result<bool, Unfit> {
     )
 }
 
-/// A healer's round that ended well is no command.
-fn counts_a_split_and_no_round(alloc: Global) -> Result<bool, Unfit> {
+/// A heal that ended well is counted; a healer's round that did is no command.
+fn counts_a_split_a_heal_and_no_round(alloc: Global) -> Result<bool, NoMemory> {
     let plan = plan_of(alloc, false, List::new(alloc), two_rounds(alloc)?)?;
     summarizes(
         alloc,
         &plan,
         split_and_heals(alloc)?,
-        "gen 7\nlines 12\nok 0\nrefused 0\nsettled 0\nobjects 1\nsplit-brain 1\n",
+        "gen 7\nlines 13\nok 0\nrefused 0\nsettled 1\nobjects 1\nsplit-brain 1\n",
     )
-}
-
-/// Whether the worked log has this summary.
-fn summarizes_worked(alloc: Global, worked: Worked, text: &str) -> bool {
-    let Ok(log) = log_of(alloc, worked) else {
-        return false;
-    };
-    let Ok(plan) = worked_plan(alloc, worked) else {
-        return false;
-    };
-    summarizes(alloc, &plan, log, text) == Ok(true)
 }
 
 #[test]
@@ -49,30 +37,8 @@ fn a_refusal_is_counted(rt: HostRuntime) -> Result<(), Fail> {
 }
 
 #[test]
-fn a_split_is_counted_and_a_round_is_not(rt: HostRuntime) -> Result<(), Fail> {
-    let holds = counts_a_split_and_no_round(rt.alloc()) == Ok(true);
+fn a_split_and_a_heal_are_counted_and_a_round_is_not(rt: HostRuntime) -> Result<(), Fail> {
+    let holds = counts_a_split_a_heal_and_no_round(rt.alloc()) == Ok(true);
     assert!(rt; holds);
-    Ok(())
-}
-
-#[test]
-fn worked_logs_have_the_summaries_that_were_worked_out(rt: HostRuntime) -> Result<(), Fail> {
-    for (worked, text) in [
-        (
-            Worked::Arbiter,
-            "gen 7\nlines 55\nok 2\nrefused 1\nsettled 0\nobjects 1\nsplit-brain 0\n",
-        ),
-        (
-            Worked::LostAnswerThenHeal,
-            "gen 7\nlines 88\nok 1\nrefused 0\nsettled 1\nobjects 0\nsplit-brain 0\n",
-        ),
-        (
-            Worked::RemovedNameStaysRemoved,
-            "gen 7\nlines 70\nok 1\nrefused 1\nsettled 1\nobjects 0\nsplit-brain 0\n",
-        ),
-    ] {
-        let holds = summarizes_worked(rt.alloc(), worked, text);
-        assert!(rt; holds, "{worked:?}");
-    }
     Ok(())
 }

@@ -1,12 +1,10 @@
-//! The texts of reports: each reply, the dead and the short, what heals give, objects with their values, and whole worked logs.
+//! The texts of reports: each reply, the dead and the short, what heals give, and objects with their values.
 
 use crate::made::{
     dead_and_short, each_reply, one_client, plan_of, split_and_heals, two_readers, two_rounds,
 };
 use crate::reported::reports;
 use afr_base::NoMemory;
-use afr_check_logs::{Worked, log_of, plan_of as worked_plan};
-use afr_check_tables::Unfit;
 use afr_lines::Line;
 use afr_object::List;
 use afr_plan::{Plan, Rounds, Scripts};
@@ -18,7 +16,7 @@ fn reports_made(
     plan: Result<Plan, NoMemory>,
     log: Result<Vec<Line>, NoMemory>,
     text: &str,
-) -> Result<bool, Unfit> {
+) -> Result<bool, NoMemory> {
     reports(alloc, &plan?, log?, text)
 }
 
@@ -26,7 +24,7 @@ fn clients_alone(alloc: Global, arbiter: bool, clients: Scripts) -> Result<Plan,
     plan_of(alloc, arbiter, clients, List::new(alloc))
 }
 
-fn has_each_reply(alloc: Global) -> Result<bool, Unfit> {
+fn has_each_reply(alloc: Global) -> Result<bool, NoMemory> {
     let plan = clients_alone(alloc, false, one_client(alloc, 9)?);
     reports_made(
         alloc,
@@ -36,7 +34,7 @@ fn has_each_reply(alloc: Global) -> Result<bool, Unfit> {
     )
 }
 
-fn shows_the_dead_and_the_short(alloc: Global) -> Result<bool, Unfit> {
+fn shows_the_dead_and_the_short(alloc: Global) -> Result<bool, NoMemory> {
     let plan = clients_alone(alloc, true, two_readers(alloc)?);
     reports_made(
         alloc,
@@ -46,26 +44,15 @@ fn shows_the_dead_and_the_short(alloc: Global) -> Result<bool, Unfit> {
     )
 }
 
-fn shows_heals_and_a_split(alloc: Global) -> Result<bool, Unfit> {
+fn shows_heals_and_a_split(alloc: Global) -> Result<bool, NoMemory> {
     let healers: Rounds = two_rounds(alloc)?;
     let plan = plan_of(alloc, false, List::new(alloc), healers);
     reports_made(
         alloc,
         plan,
         split_and_heals(alloc),
-        "afr replica 3\nlines 12\nh1 1 of 2 unfinished\n1 round ok\nentry 00000000-0000-0000-0000-000000000001 split\ndata 00000000-0000-0000-0000-000000000001 busy h2\nentry 00000000-0000-0000-0000-000000000001 moved 1\nreach 0 1 2\nobjects 1\nobject 00000000-0000-0000-0000-000000000001\nentry split\nb0 trusted.afr.vol-client-1=0x000000000000000000000001\nb0 trusted.afr.vol-client-2=0x000000000000000000000001\nb1 trusted.afr.vol-client-0=0x000000000000000000000001\nb1 trusted.afr.vol-client-2=0x000000000000000000000001\nb2 trusted.afr.dirty=0x000000000000000000000001\nsplit-brain 1\n",
+        "afr replica 3\nlines 13\nh1 1 of 2 unfinished\n1 round ok\nentry 00000000-0000-0000-0000-000000000001 split\ndata 00000000-0000-0000-0000-000000000001 busy h2\nentry 00000000-0000-0000-0000-000000000001 moved 1\nmetadata 00000000-0000-0000-0000-000000000001 settled\nreach 0 1 2\nobjects 1\nobject 00000000-0000-0000-0000-000000000001\nentry split\nb0 trusted.afr.vol-client-1=0x000000000000000000000001\nb0 trusted.afr.vol-client-2=0x000000000000000000000001\nb1 trusted.afr.vol-client-0=0x000000000000000000000001\nb1 trusted.afr.vol-client-2=0x000000000000000000000001\nb2 trusted.afr.dirty=0x000000000000000000000001\nsplit-brain 1\n",
     )
-}
-
-/// Whether the worked log has this report.
-fn reports_worked(alloc: Global, worked: Worked, text: &str) -> bool {
-    let Ok(log) = log_of(alloc, worked) else {
-        return false;
-    };
-    let Ok(plan) = worked_plan(alloc, worked) else {
-        return false;
-    };
-    reports(alloc, &plan, log, text) == Ok(true)
 }
 
 #[test]
@@ -86,31 +73,5 @@ fn a_dead_client_and_a_short_reach_show(rt: HostRuntime) -> Result<(), Fail> {
 fn heals_and_a_split_object_have_their_lines(rt: HostRuntime) -> Result<(), Fail> {
     let holds = shows_heals_and_a_split(rt.alloc()) == Ok(true);
     assert!(rt; holds);
-    Ok(())
-}
-
-#[test]
-fn a_worked_log_has_the_report_that_was_worked_out(rt: HostRuntime) -> Result<(), Fail> {
-    for (worked, text) in [
-        (
-            Worked::Arbiter,
-            "afr arbiter 3\nlines 55\nc1 3 of 3\n1 write ok\n2 write split-brain\n3 write ok\nreach 0 1\nobjects 1\nobject 00000000-0000-0001-0000-000000000001\ndata good 1\nb0 trusted.afr.vol-client-2=0x000000010000000000000000\nb1 trusted.afr.vol-client-0=0x000000010000000000000000\nb1 trusted.afr.vol-client-2=0x000000010000000000000000\nsplit-brain 0\n",
-        ),
-        (
-            Worked::LostAnswerThenHeal,
-            "afr replica 3\nlines 88\nc1 1 of 1\n1 write ok\nh1 1 of 1\n1 round ok\ndata 00000000-0000-0001-0000-000000000001 settled\nreach 0 1 2\nobjects 0\nsplit-brain 0\n",
-        ),
-        (
-            Worked::RemovedNameStaysRemoved,
-            "afr replica 3\nlines 70\nc1 1 of 1\n1 unlink ok\nc2 1 of 1\n1 stat no-entry\nh1 1 of 1\n1 round ok\nentry 00000000-0000-0000-0000-000000000001 settled\nreach 0 1 2\nobjects 0\nsplit-brain 0\n",
-        ),
-        (
-            Worked::StaleHealPiece,
-            "afr replica 3\nlines 82\nc1 2 of 2\n1 write ok\n2 write ok\nh1 1 of 1\n1 round ok\ndata 00000000-0000-0001-0000-000000000001 failed\nreach 0 1 2\nobjects 1\nobject 00000000-0000-0001-0000-000000000001\ndata good 0 1\nb0 trusted.afr.vol-client-2=0x000000020000000000000000\nb1 trusted.afr.vol-client-2=0x000000020000000000000000\nb2 trusted.afr.dirty=0x000000010000000000000000\nsplit-brain 0\n",
-        ),
-    ] {
-        let holds = reports_worked(rt.alloc(), worked, text);
-        assert!(rt; holds, "{worked:?}");
-    }
     Ok(())
 }

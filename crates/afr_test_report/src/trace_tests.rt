@@ -8,5 +8,3 @@ mod requests;
 mod tests;
 #[cfg(test)]
 mod traced;
-#[cfg(test)]
-mod worked;

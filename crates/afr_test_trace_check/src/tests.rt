@@ -1,5 +1,5 @@
 //! What is found of the trace of a run, and of others that differ from it in one line.
-use afr_plan_read::read_plan;
+use crate::built::plan_of;
 use afr_trace_check::{Finding, Rule, check};
 use std::alloc::Global;
 use std::test::Fail;
@@ -67,10 +67,7 @@ const LAST: &str = "\
 
 /// What is found of the trace with these two lines between its parts.
 fn found(alloc: Global, eighth: &str, other: &str) -> Result<Finding, Fail> {
-    let plan = match read_plan(alloc, PLAN.as_bytes()) {
-        Ok(plan) => plan,
-        Err(_) => return Err("the plan isn't read".into()),
-    };
+    let plan = plan_of(alloc, PLAN)?;
     let mut text = String::new(alloc);
     text.push_str(FIRST)?;
     text.push_str(eighth)?;

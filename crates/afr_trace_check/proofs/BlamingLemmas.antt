@@ -1,4 +1,4 @@
--- The test of a post-op passes exactly where it blames with a cause.
+-- The test of a post-op passes exactly where it has its grounds.
 use Rattle.std.proofs.Common.{◌≡◌, ◌↔◌, ◌∙◌, ℕ, ◌==◌, ◌&&◌, not, Bool, true, false, List, Option, Some, None, refl, sym, ap, arith}
 use Rattle.std.proofs.lemmas.Bool.{eqb-true}
 use Rattle.std.proofs.lemmas.Bool.Decides.{nat_tests}
@@ -11,14 +11,15 @@ use Rattle.afr_base.specs.declared.ids.Shape.{Shape}
 use Rattle.afr_choice.specs.declared.looked.Looked.{Looked}
 use Rattle.afr_lines.specs.Areas.{kind_for}
 use Rattle.afr_lines.specs.Work.{Work}
-use Rattle.afr_model.specs.Blamed.{IsBlaming, missing}
-use Rattle.afr_model.specs.Showing.{among, applied_at, begun_by, looked_by, posting}
-use Rattle.afr_model.specs.Standing.{change_by, locks_any, since, suffices}
+use Rattle.afr_lines.specs.declared.line.Line.{Line}
+use Rattle.afr_model.specs.Showing.{among, begun_by, looked_by}
+use Rattle.afr_model.specs.Standing.{change_by, since, suffices}
 use Rattle.afr_model_moves.proofs.Tests.{same_kind_self, same_kind_yes}
 use Rattle.afr_object.specs.Tables.{object_of}
 use Rattle.afr_object.specs.declared.change.Change.{Change}
 use Rattle.afr_plan.specs.declared.plan.Plan.{Plan}
-use Rattle.afr_trace_check.specs.Blaming.{is_blaming, is_change_of, is_position}
+use Rattle.afr_trace_check.specs.Blaming.{has_grounds, is_change_of, is_position}
+use Rattle.afr_trace_check.specs.Grounds.{HasGrounds, after_last, asks_lock, closing, doing, locks_object, over, refusing}
 
 abbrev numbered : ℕ → Gfid
 numbered n = record { 0 = n }
@@ -61,43 +62,43 @@ not_true : (b : Bool) → not b ≡ true → b ≡ false
 not_true true h = absurd (cc h)
 not_true false h = refl
 
-module _ (p : Plan) (attempt : ℕ) (g : Gfid) (kind : Kind) (missed : List ℕ) (b : ℕ) (w : Work) where
-  by_change : (at : Option ℕ) (o : Option Change) → begun_by w ≡ at → change_by w ≡ o → is_position at attempt ≡ true → is_change_of o g kind ≡ true → not (member (among posting w) b) ≡ true
-      → member (among applied_at w) b ≡ true → suffices p.shape kind (looked_by g w) (among applied_at w) ≡ true → same missed (minus (below p.shape.n) (among applied_at w)) ≡ true
-      → is_nothing (minus missed (among (missing g) (since locks_any w))) ≡ true → IsBlaming p attempt g kind missed b w
+module _ (p : Plan) (attempt : ℕ) (g : Gfid) (kind : Kind) (missed : List ℕ) (b : ℕ) (w : Work) (older : List Line) where
+  by_change : (at : Option ℕ) (o : Option Change) → begun_by w ≡ at → change_by w ≡ o → is_position at attempt ≡ true → is_change_of o g kind ≡ true → not (member (over (closing attempt) older) b) ≡ true
+      → member (over (doing attempt) older) b ≡ true → suffices p.shape kind (looked_by g (after_last (locks_object g) w)) (over (doing attempt) older) ≡ true → same missed (minus (below p.shape.n) (over (doing attempt) older)) ≡ true
+      → is_nothing (minus missed (among refusing (since asks_lock w))) ≡ true → HasGrounds p attempt g kind missed b w older
   by_change (Some k) (Some change) hat ho position of_it once did enough others why = record {
     change = change;
     begun = hat ∙ ap Some (eqb-true k attempt position);
     is_change = ho;
     object = gfid_same g (object_of change) (eqb-true g.0 (object_of change).0 (and_left (g.0 == (object_of change).0) (same_kind kind (kind_for change)) of_it));
     counted = same_kind_yes kind (kind_for change) (and_right (g.0 == (object_of change).0) (same_kind kind (kind_for change)) of_it);
-    once = not_true (member (among posting w) b) once;
+    once = not_true (member (over (closing attempt) older) b) once;
     did = did;
     enough = enough;
-    others = same_is missed (minus (below p.shape.n) (among applied_at w)) others;
-    why = none_left missed (among (missing g) (since locks_any w)) why;
+    others = same_is missed (minus (below p.shape.n) (over (doing attempt) older)) others;
+    why = none_left missed (among refusing (since asks_lock w)) why;
   }
   by_change None o hat ho position of_it once did enough others why = absurd (cc position)
   by_change (Some k) None hat ho position of_it once did enough others why = absurd (cc of_it)
 
-  blames : is_blaming p attempt g kind missed b w ≡ true → IsBlaming p attempt g kind missed b w
-  blames h =
+  grounded : has_grounds p attempt g kind missed b w older ≡ true → HasGrounds p attempt g kind missed b w older
+  grounded h =
       let t =
-      all_seven (is_position (begun_by w) attempt) (is_change_of (change_by w) g kind) (not (member (among posting w) b)) (member (among applied_at w) b) (suffices p.shape kind (looked_by g w) (among applied_at w))
-      (same missed (minus (below p.shape.n) (among applied_at w))) (is_nothing (minus missed (among (missing g) (since locks_any w)))) h in
+      all_seven (is_position (begun_by w) attempt) (is_change_of (change_by w) g kind) (not (member (over (closing attempt) older) b)) (member (over (doing attempt) older) b) (suffices p.shape kind (looked_by g (after_last (locks_object g) w)) (over (doing attempt) older))
+      (same missed (minus (below p.shape.n) (over (doing attempt) older))) (is_nothing (minus missed (among refusing (since asks_lock w)))) h in
       by_change (begun_by w) (change_by w) refl refl t.0 t.1 t.2 t.3 t.4 t.5 t.6
 
-  passes : IsBlaming p attempt g kind missed b w → is_blaming p attempt g kind missed b w ≡ true
+  passes : HasGrounds p attempt g kind missed b w older → has_grounds p attempt g kind missed b w older ≡ true
   passes s =
       let object : (g.0 == (object_of s.change).0) ≡ true = ap (λ (h : Gfid). g.0 == h.0) (sym s.object) ∙ eq_self g.0 in
       let counted : same_kind kind (kind_for s.change) ≡ true = ap (λ (k : Kind). same_kind kind k) (sym s.counted) ∙ same_kind_self kind in
-      seven_true (is_position (begun_by w) attempt) (is_change_of (change_by w) g kind) (not (member (among posting w) b)) (member (among applied_at w) b) (suffices p.shape kind (looked_by g w) (among applied_at w))
-      (same missed (minus (below p.shape.n) (among applied_at w))) (is_nothing (minus missed (among (missing g) (since locks_any w)))) (ap (λ (o : Option ℕ). is_position o attempt) s.begun ∙ eq_self attempt)
+      seven_true (is_position (begun_by w) attempt) (is_change_of (change_by w) g kind) (not (member (over (closing attempt) older) b)) (member (over (doing attempt) older) b) (suffices p.shape kind (looked_by g (after_last (locks_object g) w)) (over (doing attempt) older))
+      (same missed (minus (below p.shape.n) (over (doing attempt) older))) (is_nothing (minus missed (among refusing (since asks_lock w)))) (ap (λ (o : Option ℕ). is_position o attempt) s.begun ∙ eq_self attempt)
       (ap (λ (o : Option Change). is_change_of o g kind) s.is_change ∙ two_true (g.0 == (object_of s.change).0) (same_kind kind (kind_for s.change)) object counted) (ap (λ (f : Bool). not f) s.once) s.did s.enough
-      (ap (λ (t : List ℕ). same missed t) (sym s.others) ∙ same_self missed) (within_left missed (among (missing g) (since locks_any w)) s.why)
+      (ap (λ (t : List ℕ). same missed t) (sym s.others) ∙ same_self missed) (within_left missed (among refusing (since asks_lock w)) s.why)
 
-  pub blaming_is : (is_blaming p attempt g kind missed b w ≡ true) ↔ IsBlaming p attempt g kind missed b w
-  blaming_is = (blames, passes)
+  pub grounds_are : (has_grounds p attempt g kind missed b w older ≡ true) ↔ HasGrounds p attempt g kind missed b w older
+  grounds_are = (grounded, passes)
 
 -- the same seven tests
 pub same_seven : (a a' b b' c c' d d' e e' f f' g g' : Bool) → a ≡ a' → b ≡ b' → c ≡ c' → d ≡ d' → e ≡ e' → f ≡ f' → g ≡ g' → (a && b && c && d && e && f && g) ≡ (a' && b' && c' && d' && e' && f' && g')

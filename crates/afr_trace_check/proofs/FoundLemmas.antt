@@ -4,14 +4,13 @@ use Rattle.std.proofs.lemmas.List.{length-reverse, reverse-append, reverse-rever
 use Rattle.std.proofs.lemmas.Option.{same_Some}
 use Rattle.afr_lines.specs.Log.{EveryPrefix}
 use Rattle.afr_lines.specs.declared.line.Line.{Line}
-use Rattle.afr_model.specs.Blamed.{Blames}
-use Rattle.afr_model.specs.Following.{IsFollowing}
 use Rattle.afr_model.specs.Safe.{IsSafe}
 use Rattle.afr_plan.specs.declared.plan.Plan.{Plan}
 use Rattle.afr_trace_build.specs.Built.{Built, End, NoLine, OtherWords, Whole, and_on, built, built_on, end_of}
 use Rattle.afr_trace_build.specs.Filling.{fill}
 use Rattle.afr_trace_build.specs.declared.filling.Filled.{Filled}
 use Rattle.afr_trace_build.specs.declared.filling.Filled.TheVariants as filled
+use Rattle.afr_trace_check.specs.Grounds.{IsGrounded}
 use Rattle.afr_trace_check.specs.Honest.{IsHonestBySums}
 use Rattle.afr_trace_check.specs.Right.{BreaksFirst, Breaks, Ends, EndsBy, IsFoundIn, IsRight, IsRightAlways}
 use Rattle.afr_trace_check.specs.declared.finding.Finding.TheVariants as finding
@@ -19,6 +18,7 @@ use Rattle.afr_trace_check.specs.declared.finding.Rule.{Rule}
 use Rattle.afr_trace_check.specs.declared.finding.Rule.TheVariants as rule
 use Rattle.afr_base.specs.declared.ids.Gfid.{Gfid}
 use Rattle.afr_base.specs.declared.memory.NoMemory.{NoMemory}
+use Rattle.afr_trace_follow.specs.Planned.{IsPlanned}
 use Rattle.afr_trace_safe.specs.Touched.{WasSafe, touched}
 use Rattle.afr_trace_check.specs.Taken.{BreaksOne, IsOutcomeOf, KeepsRules}
 use Rattle.afr_trace_read.specs.Seen.{seen_line}
@@ -36,22 +36,22 @@ right_now p [] all = all
 right_now p (l ∷ older) all = all.0
 
 -- a line more that keeps every rule
-pub right_next : (p : Plan) (l : Line) (older : List Line) → EveryPrefix (IsRight p) older → IsFollowing false p l older → IsHonestBySums p l older → Blames p l older → IsSafe p (l ∷ older) → EveryPrefix (IsRight p) (l ∷ older)
+pub right_next : (p : Plan) (l : Line) (older : List Line) → EveryPrefix (IsRight p) older → IsPlanned p l older → IsHonestBySums p l older → IsGrounded p l older → IsSafe p (l ∷ older) → EveryPrefix (IsRight p) (l ∷ older)
 right_next p l older all follows honest blamed safe =
     let was = right_now p older all in
     (record { follows = (follows, was.follows); honest = (honest, was.honest); blamed = (blamed, was.blamed); safe = safe }, all)
 
 -- one that breaks a rule
-pub breaks_follows : (p : Plan) (l : Line) (older : List Line) → (IsFollowing false p l older → ⊥) → BreaksFirst p (l ∷ older) rule.Follows
+pub breaks_follows : (p : Plan) (l : Line) (older : List Line) → (IsPlanned p l older → ⊥) → BreaksFirst p (l ∷ older) rule.Follows
 breaks_follows p l older never = λ follows. never follows.0
 
-pub breaks_honest : (p : Plan) (l : Line) (older : List Line) → EveryPrefix (IsRight p) older → IsFollowing false p l older → (IsHonestBySums p l older → ⊥) → BreaksFirst p (l ∷ older) rule.Honest
+pub breaks_honest : (p : Plan) (l : Line) (older : List Line) → EveryPrefix (IsRight p) older → IsPlanned p l older → (IsHonestBySums p l older → ⊥) → BreaksFirst p (l ∷ older) rule.Honest
 breaks_honest p l older all follows never = ((follows, (right_now p older all).follows), λ honest. never honest.0)
 
-pub breaks_blamed : (p : Plan) (l : Line) (older : List Line) → EveryPrefix (IsRight p) older → IsFollowing false p l older → IsHonestBySums p l older → (Blames p l older → ⊥) → BreaksFirst p (l ∷ older) rule.Blamed
+pub breaks_blamed : (p : Plan) (l : Line) (older : List Line) → EveryPrefix (IsRight p) older → IsPlanned p l older → IsHonestBySums p l older → (IsGrounded p l older → ⊥) → BreaksFirst p (l ∷ older) rule.Blamed
 breaks_blamed p l older all follows honest never = let was = right_now p older all in ((follows, was.follows), (honest, was.honest), λ blamed. never blamed.0)
 
-pub breaks_safe : (p : Plan) (l : Line) (older : List Line) → EveryPrefix (IsRight p) older → IsFollowing false p l older → IsHonestBySums p l older → Blames p l older → (IsSafe p (l ∷ older) → ⊥) → BreaksFirst p (l ∷ older) rule.Safe
+pub breaks_safe : (p : Plan) (l : Line) (older : List Line) → EveryPrefix (IsRight p) older → IsPlanned p l older → IsHonestBySums p l older → IsGrounded p l older → (IsSafe p (l ∷ older) → ⊥) → BreaksFirst p (l ∷ older) rule.Safe
 breaks_safe p l older all follows honest blamed never = let was = right_now p older all in ((follows, was.follows), (honest, was.honest), (blamed, was.blamed), never)
 
 -- ---- what a trace builds

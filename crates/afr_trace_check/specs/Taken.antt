@@ -1,18 +1,18 @@
 -- The lines of a trace that were taken, and where it stops.
-use Rattle.std.specs.Prelude.{◌≡◌, ◌∷◌, false, List, Option, Some, None, reverse}
+use Rattle.std.specs.Prelude.{◌≡◌, ◌∷◌, List, Option, Some, None, reverse}
 use Rattle.afr_lines.specs.Log.{EveryPrefix}
 use Rattle.afr_lines.specs.declared.line.Line.{Line}
-use Rattle.afr_model.specs.Blamed.{Blames}
-use Rattle.afr_model.specs.Following.{IsFollowing}
 use Rattle.afr_plan.specs.declared.plan.Plan.{Plan}
 use Rattle.afr_trace_build.specs.declared.filling.Filled.{Filled}
 use Rattle.afr_trace_build.specs.declared.filling.Filled.TheVariants as filled
+use Rattle.afr_trace_check.specs.Grounds.{IsGrounded}
 use Rattle.afr_trace_check.specs.Honest.{IsHonestBySums}
 use Rattle.afr_trace_check.specs.Right.{BreaksFirst, IsRight}
 use Rattle.afr_trace_check.specs.declared.finding.Rule.{Rule}
 use Rattle.afr_trace_check.specs.declared.finding.Rule.TheVariants as rule
 use Rattle.afr_trace_check.specs.declared.checking.Taken.{Taken}
 use Rattle.afr_trace_follow.specs.Lists.{AreLists}
+use Rattle.afr_trace_follow.specs.Planned.{IsPlanned}
 use Rattle.afr_trace_tally.specs.Tally.{IsTally}
 
 -- the log of the lines that were taken, the newest first
@@ -26,9 +26,9 @@ pub record IsTaken (p : Plan) (t : Taken) : Type 0 where
 
 -- a line keeps the rules that speak of it alone
 pub record KeepsRules (p : Plan) (line : Line) (older : List Line) : Type 0 where
-  pub follows : IsFollowing false p line older
+  pub follows : IsPlanned p line older
   pub honest : IsHonestBySums p line older
-  pub blamed : Blames p line older
+  pub blamed : IsGrounded p line older
 
 -- one of these rules is the first that it breaks, where the log before it is right
 abbrev pub BreaksOne : Plan → Line → List Line → Rule → Type 0

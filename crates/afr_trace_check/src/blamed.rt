@@ -8,18 +8,19 @@ ghost use Rattle.afr_lines.specs.Log.{change_of};
 ghost use Rattle.afr_lines.specs.Work.{is_end, is_of, work};
 ghost use Rattle.afr_lines.specs.declared.answer.Told.{Told};
 ghost use Rattle.afr_lines.specs.declared.line.Line.{Line};
-ghost use Rattle.afr_model.specs.Blamed.{Blames, misses, missing};
-ghost use Rattle.afr_model.specs.Showing.{among, applied_at, begun_after, begun_by, is_done, is_fault, posting};
-ghost use Rattle.afr_model.specs.Standing.{change_after, change_by, locks_any, since, suffices};
-ghost use Rattle.afr_trace_check.specs.Blaming.{is_blaming, is_change_of, is_position};
+ghost use Rattle.afr_choice.specs.Looks.{no_looks};
+ghost use Rattle.afr_model.specs.Showing.{among, begun_after, begun_by, is_done, looked_after, looked_by};
+ghost use Rattle.afr_model.specs.Standing.{change_after, change_by, since, suffices};
+ghost use Rattle.afr_trace_check.specs.Blaming.{has_grounds, is_change_of, is_position};
+ghost use Rattle.afr_trace_check.specs.Grounds.{IsGrounded, after_last, asks_lock, closing, doing, locks_object, over, refuses, refusing};
 ghost use Rattle.afr_trace_tally.specs.Tally.{AreKnown, AsksKnown};
 
 use crate::honest::both;
-use crate::showing::looked_by;
+use crate::showing::{looked_after, object_of_area};
 use crate::told::object_of;
 use afr_base::{ActorId, BrickId, BrickSet, Gfid, Kind, Shape};
 use afr_choice::{Looked, good};
-use afr_lines::{Domain, Line, Request, Told};
+use afr_lines::{Line, Request, Told};
 use afr_object::Change;
 use afr_plan::Plan;
 use afr_trace_tally::{change_of, is_end, is_of};
@@ -163,172 +164,164 @@ fn is_done(told: Told) -> bool
     }
 }
 
-fn is_fault(told: Told) -> bool
-    ensures { result ≡ is_fault told }
-{
-    match told {
-        Told::Failed => true,
-        Told::NotConnected => true,
-        _ => false,
-    }
-}
-
-fn posting(bricks: BrickSet, line: &Line) -> BrickSet
+fn closing(bricks: BrickSet, attempt: u32, line: &Line) -> BrickSet
     requires { AsksKnown line.now }
-    ensures { result ≡ posting line.now bricks }
+    ensures { result ≡ closing attempt line.now bricks }
 {
     match line {
         Line::Ask {
             brick,
-            request: Request::Post { .. },
+            request: Request::Post { attempt: of, .. },
             ..
-        } => bricks.with(*brick),
-        Line::Begin { .. } => BrickSet::none(),
+        } => bricks.with_if(*of == attempt, *brick),
         _ => bricks,
     }
 }
 
-/// The bricks that were asked for the post-op, one line more.
-fn posting_more(a: ActorId, line: &Line, was: BrickSet) -> BrickSet
-    requires { AsksKnown line.now }
-    ensures { result ≡ (if is_of a.0 line.now then (if is_end line.now then [] else posting line.now was) else was) }
-{
-    if is_of(a, line) {
-        if is_end(line) {
-            BrickSet::none()
-        } else {
-            posting(was, line)
-        }
-    } else {
-        was
-    }
-}
-
-/// The bricks that were asked for the post-op of the present attempt.
-fn posting_by(log: &[Line], a: ActorId) -> BrickSet
+/// The bricks that were asked for the post-op of an attempt.
+fn closed_by(log: &[Line], attempt: u32) -> BrickSet
     requires { AreKnown (reverse log.now) }
-    ensures { result ≡ among posting (work a.0 (reverse log.now)) }
+    ensures { result ≡ over (closing attempt) (reverse log.now) }
 {
     let mut bricks = BrickSet::none();
     for position in 0..log.len() {
-        bricks = posting_more(a, &log[position], bricks);
+        bricks = closing(bricks, attempt, &log[position]);
     }
     bricks
 }
 
 /// Whether a brick was asked for it.
-fn was_closed(log: &[Line], a: ActorId, b: BrickId) -> bool
+fn was_closed(log: &[Line], attempt: u32, b: BrickId) -> bool
     requires known { AreKnown (reverse log.now) }
     requires brick { b.0 < 5 }
-    ensures { result ≡ member (among posting (work a.0 (reverse log.now))) b.0 }
+    ensures { result ≡ member (over (closing attempt) (reverse log.now)) b.0 }
 {
-    posting_by(log, a).has(b)
+    closed_by(log, attempt).has(b)
 }
 
-fn applied(bricks: BrickSet, line: &Line) -> BrickSet
+fn doing(bricks: BrickSet, attempt: u32, line: &Line) -> BrickSet
     requires { AsksKnown line.now }
-    ensures { result ≡ applied_at line.now bricks }
+    ensures { result ≡ doing attempt line.now bricks }
 {
     match line {
         Line::Ask {
             brick,
-            request: Request::Apply { .. },
+            request: Request::Apply { attempt: of },
             told,
             ..
-        } => bricks.with_if(is_done(*told), *brick),
-        Line::Begin { .. } => BrickSet::none(),
+        } => bricks.with_if(is_done(*told) && *of == attempt, *brick),
         _ => bricks,
     }
 }
 
-/// The bricks that did the operation, one line more.
-fn applied_more(a: ActorId, line: &Line, was: BrickSet) -> BrickSet
+/// The bricks that did the operation of an attempt.
+fn done_by(log: &[Line], attempt: u32) -> BrickSet
+    requires { AreKnown (reverse log.now) }
+    ensures { result ≡ over (doing attempt) (reverse log.now) }
+{
+    let mut bricks = BrickSet::none();
+    for position in 0..log.len() {
+        bricks = doing(bricks, attempt, &log[position]);
+    }
+    bricks
+}
+
+// ---- looks
+
+fn locks_object(g: Gfid, line: &Line) -> bool
+    ensures { result ≡ locks_object g line.now }
+{
+    match line {
+        Line::Ask {
+            request: Request::Lock { area, .. },
+            ..
+        } => object_of_area(area) == g,
+        _ => false,
+    }
+}
+
+/// What the last looks at an object show, one line more.
+fn seen_more(a: ActorId, g: Gfid, line: &Line, was: Looked) -> Looked
     requires { AsksKnown line.now }
-    ensures { result ≡ (if is_of a.0 line.now then (if is_end line.now then [] else applied_at line.now was) else was) }
+    ensures { result ≡ (if is_of a.0 line.now then (if is_end line.now || locks_object g line.now then no_looks else looked_after g line.now was) else was) }
 {
     if is_of(a, line) {
-        if is_end(line) {
-            BrickSet::none()
+        if is_end(line) || locks_object(g, line) {
+            Looked::none()
         } else {
-            applied(was, line)
+            looked_after(was, g, line)
         }
     } else {
         was
     }
 }
 
-/// The bricks that did the operation of the present attempt.
-fn applied_by(log: &[Line], a: ActorId) -> BrickSet
+/// What the work's last looks at an object show, after its last lock there.
+fn seen_by(log: &[Line], a: ActorId, g: Gfid) -> Looked
     requires { AreKnown (reverse log.now) }
-    ensures { result ≡ among applied_at (work a.0 (reverse log.now)) }
+    ensures { result ≡ looked_by g (after_last (locks_object g) (work a.0 (reverse log.now))) }
 {
-    let mut bricks = BrickSet::none();
+    let mut looked = Looked::none();
     for position in 0..log.len() {
-        bricks = applied_more(a, &log[position], bricks);
+        looked = seen_more(a, g, &log[position], looked);
     }
-    bricks
+    looked
 }
 
 // ---- what was missed
 
-fn locks_any(line: &Line) -> bool
-    ensures { result ≡ locks_any line.now }
+fn asks_lock(line: &Line) -> bool
+    ensures { result ≡ asks_lock line.now }
 {
     match line {
         Line::Ask {
-            request: Request::Lock {
-                domain: Domain::Work,
-                ..
-            },
+            request: Request::Lock { .. },
             ..
         } => true,
         _ => false,
     }
 }
 
-fn misses(g: Gfid, request: &Request, told: Told) -> bool
-    ensures { result ≡ misses g request.now told }
+fn refuses(told: Told) -> bool
+    ensures { result ≡ refuses told }
 {
-    match (request, told) {
-        (Request::Look { gfid }, Told::NoObject) => *gfid == g,
-        _ => is_fault(told),
+    match told {
+        Told::NoObject => true,
+        Told::Failed => true,
+        Told::NotConnected => true,
+        _ => false,
     }
 }
 
-fn missing(bricks: BrickSet, g: Gfid, line: &Line) -> BrickSet
+fn refusing(bricks: BrickSet, line: &Line) -> BrickSet
     requires { AsksKnown line.now }
-    ensures { result ≡ missing g line.now bricks }
+    ensures { result ≡ refusing line.now bricks }
 {
     match line {
-        Line::Ask {
-            brick,
-            request,
-            told,
-            ..
-        } => bricks.with_if(misses(g, request, *told), *brick),
+        Line::Ask { brick, told, .. } => bricks.with_if(refuses(*told), *brick),
         _ => bricks,
     }
 }
 
 /// Whether the work has asked for a lock, one line more.
 fn locked_more(a: ActorId, line: &Line, was: bool) -> bool
-    ensures { result ≡ (if is_of a.0 line.now then (if is_end line.now then false else locks_any line.now || was) else was) }
+    ensures { result ≡ (if is_of a.0 line.now then (if is_end line.now then false else asks_lock line.now || was) else was) }
 {
     if is_of(a, line) {
-        !is_end(line) && (locks_any(line) || was)
+        !is_end(line) && (asks_lock(line) || was)
     } else {
         was
     }
 }
 
-/// The bricks that missed something, one line more.
-fn missing_more(a: ActorId, g: Gfid, line: &Line, locked: bool, was: BrickSet) -> BrickSet
+/// The bricks that refused something, one line more.
+fn refusing_more(a: ActorId, line: &Line, locked: bool, was: BrickSet) -> BrickSet
     requires { AsksKnown line.now }
-    ensures { result ≡ (if is_of a.0 line.now then (if is_end line.now then [] else (if locks_any line.now || locked then missing g line.now was else [])) else was) }
+    ensures { result ≡ (if is_of a.0 line.now then (if is_end line.now then [] else (if asks_lock line.now || locked then refusing line.now was else [])) else was) }
 {
     if is_of(a, line) {
-        if !is_end(line) && (locks_any(line) || locked) {
-            missing(was, g, line)
+        if !is_end(line) && (asks_lock(line) || locked) {
+            refusing(was, line)
         } else {
             BrickSet::none()
         }
@@ -337,26 +330,26 @@ fn missing_more(a: ActorId, g: Gfid, line: &Line, locked: bool, was: BrickSet) -
     }
 }
 
-/// The bricks that missed something that an operation on the object needs, since the work's first lock.
-fn missing_by(log: &[Line], a: ActorId, g: Gfid) -> BrickSet
+/// The bricks that refused something since the work's first lock.
+fn refused_by(log: &[Line], a: ActorId) -> BrickSet
     requires { AreKnown (reverse log.now) }
-    ensures { result ≡ among (missing g) (since locks_any (work a.0 (reverse log.now))) }
+    ensures { result ≡ among refusing (since asks_lock (work a.0 (reverse log.now))) }
 {
     let mut locked = false;
     let mut bricks = BrickSet::none();
     for position in 0..log.len() {
-        bricks = missing_more(a, g, &log[position], locked, bricks);
+        bricks = refusing_more(a, &log[position], locked, bricks);
         locked = locked_more(a, &log[position], locked);
     }
     bricks
 }
 
 /// Whether all of some bricks did.
-fn are_missing(log: &[Line], a: ActorId, g: Gfid, bricks: BrickSet) -> bool
+fn have_refused(log: &[Line], a: ActorId, bricks: BrickSet) -> bool
     requires { AreKnown (reverse log.now) }
-    ensures { result ≡ is_nothing (minus bricks (among (missing g) (since locks_any (work a.0 (reverse log.now))))) }
+    ensures { result ≡ is_nothing (minus bricks (among refusing (since asks_lock (work a.0 (reverse log.now))))) }
 {
-    bricks.minus(missing_by(log, a, g)).is_empty()
+    bricks.minus(refused_by(log, a)).is_empty()
 }
 
 // ---- post-ops
@@ -417,9 +410,9 @@ fn are_all(
     begun && of_it && once && done && enough && others && why
 }
 
-/// Whether a post-op is of its work's attempt and the first at its brick, is asked where the operation was done, which is at a majority
-/// with a good copy, and accuses exactly the other bricks, each with a cause.
-fn is_blaming(
+/// Whether a post-op is of the last attempt of its actor's work and the first one at its brick, is asked where the operation was done,
+/// which is at a majority with a good copy, and accuses exactly the other bricks, each with a cause.
+fn has_grounds(
     plan: &Plan,
     log: &[Line],
     a: ActorId,
@@ -433,17 +426,17 @@ fn is_blaming(
     requires known { AreKnown (reverse log.now) }
     requires few { length log.now < 2147483648 }
     requires brick { b.0 < 5 }
-    ensures { result ≡ is_blaming plan.now attempt g kind missed b.0 (work a.0 (reverse log.now)) }
+    ensures { result ≡ has_grounds plan.now attempt g kind missed b.0 (work a.0 (reverse log.now)) (reverse log.now) }
 {
-    let did = applied_by(log, a);
-    let looked = looked_by(log, a, false, g);
+    let did = done_by(log, attempt);
+    let looked = seen_by(log, a, g);
     let begun = is_begun(log, a, attempt);
     let of_it = is_its_change(log, a, g, kind);
-    let closed = was_closed(log, a, b);
+    let closed = was_closed(log, attempt, b);
     let done = did.has(b);
     let enough = suffices(plan.shape, kind, &looked, did);
     let others = are_others(plan.shape.n, did, missed);
-    let why = are_missing(log, a, g, missed);
+    let why = have_refused(log, a, missed);
     are_all(begun, of_it, !closed, done, enough, others, why)
 }
 
@@ -453,7 +446,7 @@ fn is_asked_blamed(plan: &Plan, log: &[Line], a: ActorId, b: BrickId, request: &
     requires known { AreKnown (reverse log.now) }
     requires few { length log.now < 2147483648 }
     requires brick { b.0 < 5 }
-    ensures { (told : Told) (took : Bool) → (result ≡ true) ↔ Blames plan.now (Line.Ask a b request.now told took) (reverse log.now) }
+    ensures { (told : Told) (took : Bool) → (result ≡ true) ↔ IsGrounded plan.now (Line.Ask a b request.now told took) (reverse log.now) }
 {
     match request {
         Request::Post {
@@ -461,7 +454,7 @@ fn is_asked_blamed(plan: &Plan, log: &[Line], a: ActorId, b: BrickId, request: &
             gfid,
             kind,
             missed,
-        } => is_blaming(plan, log, a, b, *attempt, *gfid, *kind, *missed),
+        } => has_grounds(plan, log, a, b, *attempt, *gfid, *kind, *missed),
         Request::Lock { .. } => true,
         Request::Unlock { .. } => true,
         Request::Look { .. } => true,
@@ -478,14 +471,14 @@ fn is_asked_blamed(plan: &Plan, log: &[Line], a: ActorId, b: BrickId, request: &
     }
 }
 
-/// Whether a line, where it is a post-op, accuses exactly the bricks that didn't do its operation, each of which missed something that
-/// the operation needs. It takes as many steps as the log has lines.
+/// Whether a line, where it is a post-op, accuses exactly the bricks that didn't do its operation, each of which refused something since
+/// its work's first lock. Then it takes as many steps as the log has lines; any other line takes none.
 pub fn is_blamed(plan: &Plan, log: &[Line], line: &Line) -> bool
     requires shape { plan.now.shape.n ≤ 5 }
     requires known { AreKnown (reverse log.now) }
     requires line { AsksKnown line.now }
     requires few { length log.now < 2147483648 }
-    ensures { (result ≡ true) ↔ Blames plan.now line.now (reverse log.now) }
+    ensures { (result ≡ true) ↔ IsGrounded plan.now line.now (reverse log.now) }
 {
     match line {
         Line::Ask {

@@ -27,7 +27,7 @@ use std::alloc::Global;
 // ---- the last looks of a work
 
 /// The object of an area.
-fn object_of_area(area: &Area) -> Gfid
+pub(crate) fn object_of_area(area: &Area) -> Gfid
     ensures { result ≡ object_of_area area.now }
 {
     match area {
@@ -105,7 +105,7 @@ fn looked_more(a: ActorId, heal: bool, g: Gfid, line: &Line, was: Looked) -> Loo
 }
 
 /// What its last looks at an object show.
-pub(crate) fn looked_by(log: &[Line], a: ActorId, heal: bool, g: Gfid) -> Looked
+fn looked_by(log: &[Line], a: ActorId, heal: bool, g: Gfid) -> Looked
     requires { AreKnown (reverse log.now) }
     ensures { result ≡ looked_by g (in_work heal (work a.0 (reverse log.now))) }
 {
@@ -117,7 +117,7 @@ pub(crate) fn looked_by(log: &[Line], a: ActorId, heal: bool, g: Gfid) -> Looked
 }
 
 /// A look shows its view; a lock on the object makes the earlier looks void.
-fn looked_after(looked: Looked, g: Gfid, line: &Line) -> Looked
+pub(crate) fn looked_after(looked: Looked, g: Gfid, line: &Line) -> Looked
     requires { AsksKnown line.now }
     ensures { result ≡ looked_after g line.now looked }
 {

@@ -1,5 +1,5 @@
 -- The moment of a line: the next event, the actor, and its present task.
-use Rattle.std.proofs.Common.{◌≡◌, ◌↔◌, ◌∙◌, ℕ, ◌+◌, ◌-◌, ◌<◌, ◌≤◌, ◌&&◌, ◌||◌, Bool, true, false, ◌⊎◌, inl, inr, List, [], Option, Some, None, length, slice_get, refl, sym, ap, subst, arith, true≢false}
+use Rattle.std.proofs.Common.{◌≡◌, ◌↔◌, ◌∙◌, ℕ, ◌+◌, ◌-◌, ◌<◌, ◌≤◌, ◌&&◌, ◌||◌, Bool, true, false, ◌⊎◌, inl, inr, List, [], Option, Some, None, length, slice_get, refl, sym, ap, subst, arith}
 use Rattle.std.specs.Prelude.{nat_le}
 use Rattle.std.proofs.lemmas.Bool.{and_parts, le-leb, leb-true, or_cases}
 use Rattle.std.proofs.lemmas.List.{get_or_past}
@@ -13,15 +13,17 @@ use Rattle.afr_lines.specs.declared.line.Event.TheVariants.{Cut, Join}
 use Rattle.afr_lines.specs.declared.line.Line.{Line}
 use Rattle.afr_model.specs.Actors.{Client, Healer, IsActor, rounds_of, script_of}
 use Rattle.afr_model.specs.Commands.{path_of}
-use Rattle.afr_model.specs.Following.{IsNextEvent, KeepsToCommand, KeepsToTask, NoneDue, ToCommand, ToCrawl, ToItem, ToRound}
+use Rattle.afr_model.specs.Following.{IsNextEvent, NoneDue}
 use Rattle.afr_model.specs.Keeping.{KeepsTo}
-use Rattle.afr_model.specs.Renamed.{KeepsToRename}
 use Rattle.afr_plan.specs.declared.command.Command.{Command}
 use Rattle.afr_plan.specs.declared.command.Command.TheVariants.{Rename}
 use Rattle.afr_plan.specs.declared.plan.Plan.{Plan}
 use Rattle.afr_plan.specs.declared.schedule.PlannedEvent.{PlannedEvent}
 use Rattle.afr_trace_follow.specs.Commands.{new_path}
+use Rattle.afr_trace_follow.specs.Asked.{AsksThere}
 use Rattle.afr_trace_follow.specs.Following.{GoesSome, HasFewActors, KeepsToSome, is_actor}
+use Rattle.afr_trace_follow.specs.Planned.{CarriesOut, GoesWith, IsOfTask, OfCommand, OfRound, is_heal_line}
+use Rattle.afr_trace_follow.specs.Renaming.{KeepsToPaths}
 
 -- ---- lines
 -- a test of a line is one of the same line
@@ -97,47 +99,51 @@ no_script p a n c few low h =
 
 -- a client's line keeps to its task where it keeps to its command
 pub client_task : (p : Plan) (a : ℕ) (line : Line) (older : List Line) (o : Option Command) (len : ℕ) → a < 17 → o ≡ slice_get (script_of p a) (ended a older) → len ≡ length older
-    → (KeepsToSome p o line len (work a older) → KeepsToTask false p a line older) × (KeepsToTask false p a line older → KeepsToSome p o line len (work a older))
+    → (KeepsToSome p o line len (work a older) → IsOfTask p a line older) × (IsOfTask p a line older → KeepsToSome p o line len (work a older))
 client_task p a line older o len low e n = (λ k. go o e (subst (λ (m : ℕ). KeepsToSome p o line m (work a older)) n k), back)
   where
-    go : (o : Option Command) → o ≡ slice_get (script_of p a) (ended a older) → KeepsToSome p o line (length older) (work a older) → KeepsToTask false p a line older
+    go : (o : Option Command) → o ≡ slice_get (script_of p a) (ended a older) → KeepsToSome p o line (length older) (work a older) → IsOfTask p a line older
     go None e k = absurd k
-    go (Some c) e k = ToCommand c (sym e) k
+    go (Some c) e k = OfCommand c (sym e) k
 
-    back : KeepsToTask false p a line older → KeepsToSome p o line len (work a older)
-    back (ToCommand c h k) = subst (λ (x : Option Command). KeepsToSome p x line len (work a older)) (sym (e ∙ h)) (subst (λ (m : ℕ). KeepsToCommand p c line m (work a older)) (sym n) k)
-    back (ToRound plain high b h k) = absurd (omega (arith, low, high))
-    back (ToCrawl crawls who b h k) = absurd (true≢false (sym crawls))
-    back (ToItem crawls high item given k) = absurd (true≢false (sym crawls))
+    back : IsOfTask p a line older → KeepsToSome p o line len (work a older)
+    back (OfCommand c h k) = subst (λ (x : Option Command). KeepsToSome p x line len (work a older)) (sym (e ∙ h)) (subst (λ (m : ℕ). GoesWith p c line m (work a older)) (sym n) k)
+    back (OfRound high b h k) = absurd (omega (arith, low, high))
 
 -- a healer's line does where it keeps to its round
 pub healer_task : (p : Plan) (a : ℕ) (line : Line) (older : List Line) (o : Option BrickId) → length p.clients ≤ 16 → 17 ≤ a → o ≡ slice_get (rounds_of p a) (ended a older)
-    → (GoesSome p o line (work a older) → KeepsToTask false p a line older) × (KeepsToTask false p a line older → GoesSome p o line (work a older))
+    → (GoesSome p o line (work a older) → IsOfTask p a line older) × (IsOfTask p a line older → GoesSome p o line (work a older))
 healer_task p a line older o few low e = (λ k. go o e k, back)
   where
-    go : (o : Option BrickId) → o ≡ slice_get (rounds_of p a) (ended a older) → GoesSome p o line (work a older) → KeepsToTask false p a line older
+    go : (o : Option BrickId) → o ≡ slice_get (rounds_of p a) (ended a older) → GoesSome p o line (work a older) → IsOfTask p a line older
     go None e k = absurd k
-    go (Some b) e k = ToRound refl low b (sym e) k
+    go (Some b) e k = OfRound low b (sym e) k
 
-    back : KeepsToTask false p a line older → GoesSome p o line (work a older)
-    back (ToCommand c h k) = absurd (no_script p a (ended a older) c few low h)
-    back (ToRound plain high b h k) = subst (λ (x : Option BrickId). GoesSome p x line (work a older)) (sym (e ∙ h)) k
-    back (ToCrawl crawls who b h k) = absurd (true≢false (sym crawls))
-    back (ToItem crawls high item given k) = absurd (true≢false (sym crawls))
+    back : IsOfTask p a line older → GoesSome p o line (work a older)
+    back (OfCommand c h k) = absurd (no_script p a (ended a older) c few low h)
+    back (OfRound high b h k) = subst (λ (x : Option BrickId). GoesSome p x line (work a older)) (sym (e ∙ h)) k
+
+-- a line that is of no heal goes with a command where it carries it out
+pub with_command : (line : Line) (P : Type 0) → is_heal_line line ≡ false → (P → (is_heal_line line ≡ true) ⊎ P) × ((is_heal_line line ≡ true) ⊎ P → P)
+with_command line P e = (λ k. inr k, back)
+  where
+    back : (is_heal_line line ≡ true) ⊎ P → P
+    back (inl h) = absurd (cc (sym e ∙ h))
+    back (inr k) = k
 
 -- a command with a second path is a rename
-pub rename_command : (p : Plan) (c : Command) (line : Line) (at : ℕ) (w : Work) (to : List NameId) → Some to ≡ new_path c
-    → (KeepsToRename p (path_of c) to line at w → KeepsToCommand p c line at w) × (KeepsToCommand p c line at w → KeepsToRename p (path_of c) to line at w)
-rename_command p (Rename from other) line at w to e =
+pub two_paths : (p : Plan) (c : Command) (line : Line) (at : ℕ) (w : Work) (to : List NameId) → Some to ≡ new_path c
+    → (KeepsToPaths p (path_of c) to line w → CarriesOut p c line at w) × (CarriesOut p c line at w → KeepsToPaths p (path_of c) to line w)
+two_paths p (Rename from other) line at w to e =
     let same : to ≡ other = same_Some to other e in
-    (λ k. subst (λ (l : List NameId). KeepsToRename p from l line at w) same k, λ k. subst (λ (l : List NameId). KeepsToRename p from l line at w) (sym same) k)
-rename_command p c line at w to e = absurd (cc e)
+    (λ k. subst (λ (l : List NameId). KeepsToPaths p from l line w) same k, λ k. subst (λ (l : List NameId). KeepsToPaths p from l line w) (sym same) k)
+two_paths p c line at w to e = absurd (cc e)
 
-pub plain_command : (p : Plan) (c : Command) (line : Line) (at : ℕ) (w : Work) → None ≡ new_path c → (KeepsTo p c line at w → KeepsToCommand p c line at w) × (KeepsToCommand p c line at w → KeepsTo p c line at w)
-plain_command p (Rename from to) line at w e = absurd (cc e)
-plain_command p c line at w e = (λ k. k, λ k. k)
+pub one_path : (p : Plan) (c : Command) (line : Line) (at : ℕ) (w : Work) → None ≡ new_path c → (KeepsTo p c line at w × AsksThere p line w → CarriesOut p c line at w) × (CarriesOut p c line at w → KeepsTo p c line at w × AsksThere p line w)
+one_path p (Rename from to) line at w e = absurd (cc e)
+one_path p c line at w e = (λ k. k, λ k. k)
 
 -- the same two paths
-pub same_paths : (p : Plan) (line : Line) (at : ℕ) (w : Work) (r : Bool) (one from other to : List NameId) → one ≡ from → other ≡ to → ((r ≡ true) ↔ KeepsToRename p one other line at w) → ((r ≡ true) ↔ KeepsToRename p from to line at w)
-same_paths p line at w r one from other to hf ht k =
-    subst (λ (l : List NameId). (r ≡ true) ↔ KeepsToRename p from l line at w) ht (subst (λ (l : List NameId). (r ≡ true) ↔ KeepsToRename p l other line at w) hf k)
+pub same_paths : (p : Plan) (line : Line) (w : Work) (r : Bool) (one from other to : List NameId) → one ≡ from → other ≡ to → ((r ≡ true) ↔ KeepsToPaths p one other line w) → ((r ≡ true) ↔ KeepsToPaths p from to line w)
+same_paths p line w r one from other to hf ht k =
+    subst (λ (l : List NameId). (r ≡ true) ↔ KeepsToPaths p from l line w) ht (subst (λ (l : List NameId). (r ≡ true) ↔ KeepsToPaths p l other line w) hf k)

@@ -1,7 +1,8 @@
 -- Where a round stands in the heals of its list.
 use Rattle.std.proofs.Common.{◌≡◌, ◌∙◌, ℕ, zero, suc, ◌≤◌, ◌==◌, ◌%◌, ◌/◌, Bool, true, false, List, [], ◌∷◌, Option, Some, None, length, slice_get, refl, sym, ap, subst, arith, if◌then◌else◌}
 use Rattle.std.specs.Option.{option_map}
-use Rattle.std.proofs.lemmas.Option.{same_Some, some_pair_parts}
+use Rattle.std.specs.Prelude.{is_some}
+use Rattle.std.proofs.lemmas.Option.{some_pair_parts}
 use Rattle.afr_base.specs.declared.ids.ActorId.{ActorId}
 use Rattle.afr_base.specs.declared.ids.BrickId.{BrickId}
 use Rattle.afr_base.specs.declared.ids.Gfid.{Gfid}
@@ -14,9 +15,10 @@ use Rattle.afr_lines.specs.declared.line.Line.{Line}
 use Rattle.afr_lines.specs.declared.line.Line.TheVariants.{Ask, HealEnd}
 use Rattle.afr_lines.specs.declared.request.Request.{Request}
 use Rattle.afr_lines.specs.declared.request.Request.TheVariants.{Index}
-use Rattle.afr_model.specs.Rounds.{IsHealed, IsOfHeal, KeepsToIndexed, due_in, heals_ended, heals_of, kind_within, object_healed, plus_healed}
+use Rattle.afr_model.specs.Rounds.{due_in, heals_ended, heals_of, kind_within, plus_healed}
 use Rattle.afr_trace_follow.proofs.PartLemmas.{work_step}
-use Rattle.afr_trace_follow.specs.Healing.{IsHealOf, IsHealing, has_line, is_index, nth_heal}
+use Rattle.afr_trace_follow.specs.Healing.{IsHealing, has_line, is_index, nth_heal}
+use Rattle.afr_trace_follow.specs.Turns.{AsksIndex, HealsInTurn, KeepsToList}
 use Rattle.afr_trace_follow.specs.declared.rounds.Healing.{Healing}
 
 -- ---- the heals of a list
@@ -59,43 +61,40 @@ pub due_is : (list : List (Gfid × What)) (a : ℕ) (log : List Line) (x : Heali
 due_is list a log x due v e = e ∙ ap (λ (n : ℕ). nth_heal list n) v.healed ∙ sym (heals_get list (heals_ended (work a log)))
 
 -- ---- a line
--- an index is asked first
-none_begun : (w : Work) → has_line w ≡ false → w ≡ []
-none_begun [] h = refl
-none_begun (x ∷ w) h = absurd (cc h)
+-- whether it asks for an index
+pub index_is : (b y : BrickId) (a : ActorId) (asked : Request) (told : Told) (took : Bool) → is_index asked ≡ true → (y ≡ b → AsksIndex b (Ask a y asked told took)) × (AsksIndex b (Ask a y asked told took) → y ≡ b)
+index_is b y a Index told took h = (λ k. k, λ k. k)
+index_is b y a asked told took h = absurd (cc h)
 
-pub index_asked : (b y : BrickId) (list : List (Gfid × What)) (w : Work) (a : ActorId) (asked : Request) (told : Told) (took begun : Bool) → is_index asked ≡ true → begun ≡ has_line w
-    → ((begun ≡ false) × (y ≡ b) → KeepsToIndexed b list (Ask a y asked told took) w) × (KeepsToIndexed b list (Ask a y asked told took) w → (begun ≡ false) × (y ≡ b))
-index_asked b y list w a Index told took begun h e = (λ k. (none_begun w (sym e ∙ k.0), k.1), λ k. (e ∙ ap has_line k.0, k.1))
-index_asked b y list w a asked told took begun h e = absurd (cc h)
+pub no_index : (b y : BrickId) (a : ActorId) (asked : Request) (told : Told) (took : Bool) → is_index asked ≡ false → AsksIndex b (Ask a y asked told took) → ⊥
+no_index b y a Index told took h k = absurd (cc h)
+no_index b y a asked told took h k = k
 
--- what is asked then is of the heal that is due
-of_heal : (list : List (Gfid × What)) (asked : Request) (w : Work) (due : Option (Gfid × Kind)) (object : Option Gfid) → due ≡ due_in list w → object ≡ object_healed asked
-    → (IsHealOf due object → IsOfHeal list asked w) × (IsOfHeal list asked w → IsHealOf due object)
-of_heal list asked w due object hd ho = (
-  λ k. record { object = k.gfid; kind = k.kind; due = sym hd ∙ k.is_due; about = sym ho ∙ k.about },
-  λ k. record { gfid = k.object; kind = k.kind; is_due = hd ∙ k.due; about = ho ∙ k.about },
-)
+-- it doesn't again, and the others come while a heal is left
+pub index_again : (list : List (Gfid × What)) (w : Work) (b : BrickId) (a : ActorId) (asked : Request) (told : Told) (took : Bool) → is_index asked ≡ true → HealsInTurn list (Ask a b asked told took) w → ⊥
+index_again list w b a Index told took h k = k
+index_again list w b a asked told took h k = absurd (cc h)
 
-pub heal_asked : (b y : BrickId) (list : List (Gfid × What)) (w : Work) (a : ActorId) (asked : Request) (told : Told) (took : Bool) (due : Option (Gfid × Kind)) (object : Option Gfid) → is_index asked ≡ false → due ≡ due_in list w
-    → object ≡ object_healed asked → (IsHealOf due object → KeepsToIndexed b list (Ask a y asked told took) w) × (KeepsToIndexed b list (Ask a y asked told took) w → IsHealOf due object)
-heal_asked b y list w a Index told took due object h hd ho = absurd (cc h)
-heal_asked b y list w a asked told took due object h hd ho = of_heal list asked w due object hd ho
+pub left_is : (list : List (Gfid × What)) (w : Work) (due : Option (Gfid × Kind)) → due ≡ due_in list w → (is_some due ≡ true → is_some (due_in list w) ≡ true) × (is_some (due_in list w) ≡ true → is_some due ≡ true)
+left_is list w due e = (λ h. ap (λ (o : Option (Gfid × Kind)). is_some o) (sym e) ∙ h, λ h. ap (λ (o : Option (Gfid × Kind)). is_some o) e ∙ h)
+
+pub heal_on : (list : List (Gfid × What)) (w : Work) (b : BrickId) (a : ActorId) (asked : Request) (told : Told) (took : Bool) (due : Option (Gfid × Kind)) → is_index asked ≡ false → due ≡ due_in list w
+    → (is_some due ≡ true → HealsInTurn list (Ask a b asked told took) w) × (HealsInTurn list (Ask a b asked told took) w → is_some due ≡ true)
+heal_on list w b a Index told took due h e = absurd (cc h)
+heal_on list w b a asked told took due h e = left_is list w due e
+
+-- the first line of a round, and the later ones
+pub first_line : (b : BrickId) (list : List (Gfid × What)) (line : Line) (w : Work) → has_line w ≡ false → (AsksIndex b line → KeepsToList b list line w) × (KeepsToList b list line w → AsksIndex b line)
+first_line b list line [] h = (λ k. k, λ k. k)
+first_line b list line (x ∷ w) h = absurd (cc h)
+
+pub later_line : (b : BrickId) (list : List (Gfid × What)) (line : Line) (w : Work) → has_line w ≡ true → (HealsInTurn list line w → KeepsToList b list line w) × (KeepsToList b list line w → HealsInTurn list line w)
+later_line b list line [] h = absurd (cc h)
+later_line b list line (x ∷ w) h = (λ k. k, λ k. k)
 
 -- the same heal is due
 pub same_due : (one other x : Option (Gfid × Kind)) → one ≡ other → (one ≡ x → other ≡ x) × (other ≡ x → one ≡ x)
 same_due one other x e = (λ h. sym e ∙ h, λ h. e ∙ h)
-
--- a work that has begun, with nothing left to heal
-pub healed_is : (list : List (Gfid × What)) (w : Work) (due : Option (Gfid × Kind)) (begun : Bool) → due ≡ due_in list w → begun ≡ has_line w → ((begun ≡ true) × (due ≡ None) → IsHealed list w) × (IsHealed list w → (begun ≡ true) × (due ≡ None))
-healed_is list [] due begun hd hb = (λ k. none (sym hb ∙ k.0), λ k. some k.begun)
-  where
-    none : false ≡ true → IsHealed list []
-    none e = absurd (cc e)
-
-    some : {x : Line × List Line} {w : Work} → [] ≡ x ∷ w → (begun ≡ true) × (due ≡ None)
-    some e = absurd (cc e)
-healed_is list (x ∷ w) due begun hd hb = (λ k. record { first = x; older = w; begun = refl; done = sym hd ∙ k.1 }, λ k. (hb, hd ∙ k.done))
 
 -- ---- the heal that is due
 pub pair_due : (object g : Gfid) (within kind : Kind) → ((object ≡ g) × (within ≡ kind) → ◌≡◌ {A = Option (Gfid × Kind)} (Some (object, within)) (Some (g, kind))) × (◌≡◌ {A = Option (Gfid × Kind)} (Some (object, within)) (Some (g, kind)) → (object ≡ g) × (within ≡ kind))
@@ -103,19 +102,3 @@ pair_due object g within kind = (λ k. rw (k.0, k.1) refl, λ e. some_pair_parts
 
 pub no_due : (g : Gfid) (kind : Kind) → ◌≡◌ {A = Option (Gfid × Kind)} None (Some (g, kind)) → ⊥
 no_due g kind e = absurd (cc e)
-
-pub heal_here : (due : Option (Gfid × Kind)) (gfid object : Gfid) (kind : Kind) → due ≡ Some (gfid, kind) → (gfid ≡ object → IsHealOf due (Some object)) × (IsHealOf due (Some object) → gfid ≡ object)
-heal_here due gfid object kind h = (
-  λ e. record { gfid = gfid; kind = kind; is_due = h; about = ap Some (sym e) },
-  λ k.
-      let s = some_pair_parts gfid k.gfid kind k.kind (sym h ∙ k.is_due) in
-      s.0 ∙ sym (same_Some object k.gfid k.about),
-)
-
-pub no_object : (due : Option (Gfid × Kind)) → IsHealOf due None → ⊥
-no_object due k = absurd (cc k.about)
-
-pub no_heal : (due : Option (Gfid × Kind)) (object : Option Gfid) → due ≡ None → IsHealOf due object → ⊥
-no_heal due object h k =
-    let no : None ≡ Some (k.gfid, k.kind) = sym h ∙ k.is_due in
-    absurd (cc no)

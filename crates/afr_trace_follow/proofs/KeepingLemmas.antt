@@ -1,26 +1,22 @@
 -- What a line keeps to, by where its work stands.
-use Rattle.std.proofs.Common.{◌≡◌, ◌↔◌, ◌∙◌, ℕ, ◌-◌, ◌&&◌, not, Bool, true, false, List, Some, None, length, slice_get, refl, sym, ap, subst, if◌then◌else◌}
-use Rattle.std.specs.Option.{option_map}
+use Rattle.std.proofs.Common.{◌≡◌, ◌↔◌, ◌∙◌, ℕ, ◌&&◌, not, Bool, true, false, List, Some, None, slice_get, refl, sym, ap, subst, if◌then◌else◌}
 use Rattle.std.proofs.lemmas.Option.{same_Some}
 use Rattle.afr_base.specs.declared.ids.Gfid.{Gfid}
 use Rattle.afr_base.specs.declared.ids.NameId.{NameId}
-use Rattle.afr_base.specs.declared.ids.What.{What}
-use Rattle.afr_base.specs.declared.ids.What.TheVariants.{File}
 use Rattle.afr_lines.specs.Log.{change_of}
 use Rattle.afr_lines.specs.Work.{Work}
 use Rattle.afr_lines.specs.declared.line.Line.{Line}
 use Rattle.afr_lines.specs.declared.line.Line.TheVariants.{Ask, Begin, HealBegin, HealEnd}
 use Rattle.afr_lines.specs.declared.request.Request.TheVariants.{ReadName}
-use Rattle.afr_model.specs.Commands.{change_named, is_on_name, last_of, path_of, steps_of}
+use Rattle.afr_model.specs.Commands.{change_named, is_on_name, path_of, steps_of}
 use Rattle.afr_model.specs.Keeping.{IsNextName, KeepsTo, Names}
 use Rattle.afr_model.specs.Showing.{At, NoName, Path, Untold, begins_attempt, has, path_by}
 use Rattle.afr_model.specs.Standing.{path_upto, place_by}
 use Rattle.afr_object.specs.declared.change.Change.{Change}
-use Rattle.afr_object.specs.declared.change.Change.TheVariants as changes
 use Rattle.afr_object.specs.declared.entry.Entry.{Entry}
 use Rattle.afr_plan.specs.declared.command.Command.{Command}
 use Rattle.afr_plan.specs.declared.plan.Plan.{Plan}
-use Rattle.afr_trace_follow.specs.Keeping.{IsLinkAt, IsNamedAt, IsNextOf, KeepsBy}
+use Rattle.afr_trace_follow.specs.Keeping.{IsNamedAt, IsNextOf, KeepsBy}
 use Rattle.afr_trace_follow.specs.Seen.{path_seen}
 use Rattle.afr_trace_follow.specs.Stands.{IsAt}
 use Rattle.afr_trace_follow.specs.declared.stand.Stand.{Stand}
@@ -82,48 +78,12 @@ named_here read object c at change = (
 pub no_named : (path : Path) (c : Command) (at : ℕ) (change : Change) → ((read : ℕ) (object : Entry) → path ≡ At read object → ⊥) → IsNamedAt path c at change → ⊥
 no_named path c at change nowhere k = nowhere (steps_of c) k.object k.led
 
-pub link_here : (file : Gfid) (read : ℕ) (dir : Entry) (to : List NameId) (change : Change)
-    → ((read ≡ length to - 1) × (option_map (λ name. changes.Make dir.gfid name file File) (last_of to) ≡ Some change) → IsLinkAt file (At read dir) to change)
-    × (IsLinkAt file (At read dir) to change → (read ≡ length to - 1) × (option_map (λ name. changes.Make dir.gfid name file File) (last_of to) ≡ Some change))
-link_here file read dir to change = (
-  λ k. record { dir = dir; led = ap (λ (n : ℕ). At n dir) k.0; named = k.1 },
-  λ k.
-      let s = at_parts read (length to - 1) dir k.dir k.led in
-      (s.0, ap (λ (e : Entry). option_map (λ name. changes.Make e.gfid name file File) (last_of to)) s.1 ∙ k.named),
-)
-
-pub no_link : (file : Gfid) (path : Path) (to : List NameId) (change : Change) → ((read : ℕ) (object : Entry) → path ≡ At read object → ⊥) → IsLinkAt file path to change → ⊥
-no_link file path to change nowhere k = nowhere (length to - 1) k.dir k.led
-
 -- a path that has led nowhere
 pub no_name_there : (read : ℕ) (object : Entry) → NoName ≡ At read object → ⊥
 no_name_there read object e = absurd (cc e)
 
 pub untold_there : (read : ℕ) (object : Entry) → Untold ≡ At read object → ⊥
 untold_there read object e = absurd (cc e)
-
--- the file where a path has led
-file_entry : (object : Entry) (g : Gfid) → object.gfid ≡ g → object.what ≡ File → object ≡ (record { gfid = g; what = File })
-file_entry object g hg hw = two object.gfid g object.what File hg hw
-  where
-    two : (a b : Gfid) (v w : What) → a ≡ b → v ≡ w → ◌≡◌ {A = Entry} (record { gfid = a; what = v }) (record { gfid = b; what = w })
-    two a b v w e f = rw (e, f) refl
-
-pub file_here : (read names : ℕ) (object : Entry) (g : Gfid) → (read ≡ names) × (object.what ≡ File) → (Some object.gfid ≡ Some g) ↔ (At read object ≡ At names (record { gfid = g; what = File }))
-file_here read names object g h = (
-  λ e. ap (λ (n : ℕ). At n object) h.0 ∙ ap (At names) (file_entry object g (same_Some object.gfid g e) h.1),
-  λ e.
-      let s = at_parts read names object (record { gfid = g; what = File }) e in
-      ap (λ (x : Entry). Some x.gfid) s.1,
-)
-
-pub no_file : (read names : ℕ) (object : Entry) (g : Gfid) → ((read ≡ names) × (object.what ≡ File) → ⊥) → (None ≡ Some g) ↔ (At read object ≡ At names (record { gfid = g; what = File }))
-no_file read names object g other = (
-  λ e. absurd (cc e),
-  λ e.
-      let s = at_parts read names object (record { gfid = g; what = File }) e in
-      absurd (other (s.0, ap (λ (x : Entry). x.what) s.1)),
-)
 
 -- ---- one path
 -- the name is the next one, by the same path and names
@@ -168,12 +128,3 @@ pub no_begin : (line : Line) (P : Type 0) (r : Bool) → None ≡ change_of line
 no_begin line P r h change e =
     let no : None ≡ Some change = h ∙ e in
     absurd (cc no)
-
--- the file is there
-pub some_link : (file : Gfid) (begun : Bool) (place : Path) (to : List NameId) (change : Change)
-    → ((begun ≡ false) × IsLinkAt file place to change → (begun ≡ false) × ((g : Gfid) × (Some file ≡ Some g) × IsLinkAt g place to change))
-    × ((begun ≡ false) × ((g : Gfid) × (Some file ≡ Some g) × IsLinkAt g place to change) → (begun ≡ false) × IsLinkAt file place to change)
-some_link file begun place to change = (λ k. (k.0, (file, refl, k.1)), λ k. (k.0, subst (λ (g : Gfid). IsLinkAt g place to change) (sym (same_Some file k.1.0 k.1.1)) k.1.2))
-
-pub none_link : (begun : Bool) (place : Path) (to : List NameId) (change : Change) → (begun ≡ false) × ((g : Gfid) × (None ≡ Some g) × IsLinkAt g place to change) → ⊥
-none_link begun place to change k = absurd (cc k.1.1)

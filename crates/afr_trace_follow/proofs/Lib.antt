@@ -2,10 +2,10 @@ pub mod LogLemmas
 pub mod PartLemmas
 pub mod StandLemmas
 pub mod KeepingLemmas
-pub mod RenameLemmas
+pub mod AskedLemmas
 pub mod HealLemmas
 pub mod FollowLemmas
 pub mod RisingLemmas
-pub mod NumberLemmas
+pub mod MarkedLemmas
 pub mod ListLemmas
 pub mod ChangeLemmas

@@ -1,5 +1,5 @@
 -- Where a round stands in the heals of its list.
-use Rattle.std.specs.Prelude.{◌≡◌, ℕ, ◌≤◌, ◌==◌, ◌%◌, ◌/◌, Bool, true, false, List, [], ◌∷◌, Option, Some, length, slice_get, if◌then◌else◌}
+use Rattle.std.specs.Prelude.{◌≡◌, ℕ, ◌≤◌, ◌==◌, ◌%◌, ◌/◌, Bool, true, false, List, [], ◌∷◌, Option, length, slice_get, if◌then◌else◌}
 use Rattle.std.specs.Option.{option_map}
 use Rattle.afr_base.specs.declared.ids.Gfid.{Gfid}
 use Rattle.afr_base.specs.declared.ids.Kind.{Kind}
@@ -31,10 +31,3 @@ pub record IsHealing (a : ℕ) (log : List Line) (x : Healing) : Type 0 where
 -- the n-th heal of a list: each object has two
 abbrev pub nth_heal : List (Gfid × What) → ℕ → Option (Gfid × Kind)
 nth_heal list n = option_map (λ x. (x.0, if n % 2 == 0 then Attrs else kind_within x.1)) (slice_get list (n / 2))
-
--- the heal is of this object
-pub record IsHealOf (due : Option (Gfid × Kind)) (object : Option Gfid) : Type 0 where
-  pub gfid : Gfid
-  pub kind : Kind
-  pub is_due : due ≡ Some (gfid, kind)
-  pub about : object ≡ Some gfid

@@ -1,16 +1,13 @@
 -- What a line keeps to, by where its work stands.
-use Rattle.std.specs.Prelude.{◌≡◌, ℕ, ◌-◌, Bool, true, List, Some, length, slice_get}
-use Rattle.std.specs.Option.{option_map}
+use Rattle.std.specs.Prelude.{◌≡◌, ℕ, Bool, true, List, Some, slice_get}
 use Rattle.afr_base.specs.declared.ids.Gfid.{Gfid}
 use Rattle.afr_base.specs.declared.ids.NameId.{NameId}
-use Rattle.afr_base.specs.declared.ids.What.TheVariants.{File}
 use Rattle.afr_lines.specs.declared.line.Line.{Line}
 use Rattle.afr_lines.specs.declared.line.Line.TheVariants.{Ask, Begin, HealBegin, HealEnd}
 use Rattle.afr_lines.specs.declared.request.Request.TheVariants.{ReadName}
-use Rattle.afr_model.specs.Commands.{change_named, last_of, steps_of}
+use Rattle.afr_model.specs.Commands.{change_named, steps_of}
 use Rattle.afr_model.specs.Showing.{At, Path}
 use Rattle.afr_object.specs.declared.change.Change.{Change}
-use Rattle.afr_object.specs.declared.change.Change.TheVariants as changes
 use Rattle.afr_object.specs.declared.entry.Entry.{Entry}
 use Rattle.afr_plan.specs.declared.command.Command.{Command}
 
@@ -35,9 +32,3 @@ KeepsBy path names begins (Begin a change) = begins ≡ true
 KeepsBy path names begins (HealBegin a g kind) = ⊥
 KeepsBy path names begins (HealEnd a g kind reply) = ⊥
 KeepsBy path names begins line = Unit {0}
-
--- a change gives the file the last of these names, in the directory that the place is
-pub record IsLinkAt (file : Gfid) (place : Path) (to : List NameId) (change : Change) : Type 0 where
-  pub dir : Entry
-  pub led : place ≡ At (length to - 1) dir
-  pub named : option_map (λ name. changes.Make dir.gfid name file File) (last_of to) ≡ Some change

@@ -1,9 +1,13 @@
 pub mod Seen
 pub mod Parts
+pub mod Asked
+pub mod Renaming
+pub mod Turns
+pub mod Planned
 pub mod Stands
 pub mod Keeping
 pub mod Commands
 pub mod Healing
-pub mod Numbers
+pub mod Marked
 pub mod Lists
 pub mod Following

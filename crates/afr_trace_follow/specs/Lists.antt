@@ -8,25 +8,18 @@ use Rattle.afr_lines.specs.declared.answer.Told.TheVariants.{Given}
 use Rattle.afr_lines.specs.declared.line.Line.{Line}
 use Rattle.afr_lines.specs.declared.line.Line.TheVariants.{Ask}
 use Rattle.afr_lines.specs.declared.request.Request.TheVariants.{Index}
-use Rattle.afr_model.specs.Rounds.{listed_by}
 use Rattle.afr_plan.specs.declared.plan.Plan.{Plan}
-use Rattle.afr_trace_follow.specs.Numbers.{IsNumbered}
+use Rattle.afr_trace_follow.specs.Marked.{list_of}
 use Rattle.afr_trace_follow.specs.declared.lists.Lists.{Lists}
-use Rattle.afr_trace_follow.specs.declared.numbers.Numbered.{Numbered}
 
 -- the brick whose index a line gave
 abbrev pub index_given : Line → Option BrickId
 index_given (Ask a b Index Given took) = Some b
 index_given line = None
 
--- five bricks are kept
-pub record AreNumbered (p : Plan) (log : List Line) (bricks : List Numbered) : Type 0 where
-  pub five : length bricks ≡ 5
-  pub each : (b : ℕ) (n : Numbered) → slice_get bricks b ≡ Some n → IsNumbered p log b n
-
 -- a list is that of the present round of the healer with this number, counted from 0
 abbrev pub IsGivenTo : Plan → List Line → ℕ → List (Gfid × What) → Type 0
-IsGivenTo p log i list = list ≡ listed_by p (work (17 + i) log)
+IsGivenTo p log i list = list ≡ list_of p (work (17 + i) log)
 
 -- three lists are kept
 pub record AreGiven (p : Plan) (log : List Line) (given : List (List (Gfid × What))) : Type 0 where
@@ -35,5 +28,4 @@ pub record AreGiven (p : Plan) (log : List Line) (given : List (List (Gfid × Wh
 
 -- what is kept is what the log has made
 pub record AreLists (p : Plan) (log : List Line) (lists : Lists) : Type 0 where
-  pub bricks : AreNumbered p log lists.bricks.items
   pub given : AreGiven p log lists.given.items

@@ -3,18 +3,20 @@ ghost use Rattle.std.specs.Prelude.{◌≡◌, ◌↔◌, ◌<◌, ◌≤◌, So
 ghost use Rattle.std.specs.Option.{option_copied};
 ghost use Rattle.afr_lines.specs.Work.{events_made, is_killed, work};
 ghost use Rattle.afr_model.specs.Actors.{rounds_of, script_of};
-ghost use Rattle.afr_model.specs.Following.{IsDue, IsFollowing, IsNextEvent, IsTurnOf, KeepsToCommand, KeepsToTask, NoneDue};
+ghost use Rattle.afr_model.specs.Following.{IsNextEvent, NoneDue};
 ghost use Rattle.afr_trace_follow.specs.Commands.{new_path};
 ghost use Rattle.afr_trace_follow.specs.Following.{GoesSome, HasFewActors, KeepsToSome, is_actor};
 ghost use Rattle.afr_trace_follow.specs.Lists.{AreLists};
+ghost use Rattle.afr_trace_follow.specs.Planned.{CarriesOut, GoesWith, HasMoment, HasTurn, IsOfTask, IsPlanned, is_heal_line};
 ghost use Rattle.afr_trace_tally.specs.Tally.{IsTally};
 
+use crate::asked::asks_there;
 use crate::commands::path_of;
 use crate::facts::{both, same_brick};
 use crate::keeping::keeps_to;
 use crate::lists::Lists;
-use crate::renamed::keeps_to_rename;
-use crate::rounds::keeps_to_round;
+use crate::renamed::keeps_to_paths;
+use crate::rounds::keeps_to_list;
 use afr_base::{ActorId, BrickId};
 use afr_lines::{Event, Line};
 use afr_plan::{Command, NamePath, Plan, PlannedEvent};
@@ -190,7 +192,7 @@ fn new_path(command: &Command) -> Option<&NamePath>
     }
 }
 
-fn keeps_to_command(
+fn carries_out(
     tally: &Tally,
     plan: &Plan,
     log: &[Line],
@@ -200,14 +202,48 @@ fn keeps_to_command(
 ) -> bool
     requires tally { IsTally plan.now (reverse log.now) tally.now }
     requires few { length log.now < 2147483648 }
-    ensures { (result ≡ true) ↔ KeepsToCommand plan.now command.now line.now (length log.now) (work a.0 (reverse log.now)) }
+    ensures { (result ≡ true) ↔ CarriesOut plan.now command.now line.now (length log.now) (work a.0 (reverse log.now)) }
 {
     match new_path(command) {
         Some(to) => {
             let from = path_of(command).as_slice();
-            keeps_to_rename(tally, plan, log, a, from, to.as_slice(), line)
+            keeps_to_paths(tally, plan, log, a, from, to.as_slice(), line)
         }
-        None => keeps_to(tally, plan, log, a, command, line),
+        None => {
+            let keeps = keeps_to(tally, plan, log, a, command, line);
+            both(keeps, asks_there(tally, plan, log, a, line))
+        }
+    }
+}
+
+/// Whether a line begins or ends a heal.
+fn is_heal_line(line: &Line) -> bool
+    ensures { result ≡ is_heal_line line.now }
+{
+    match line {
+        Line::HealBegin { .. } => true,
+        Line::HealEnd { .. } => true,
+        _ => false,
+    }
+}
+
+/// Whether a line carries out a command, or says nothing of it.
+fn goes_with(
+    tally: &Tally,
+    plan: &Plan,
+    log: &[Line],
+    a: ActorId,
+    command: &Command,
+    line: &Line,
+) -> bool
+    requires tally { IsTally plan.now (reverse log.now) tally.now }
+    requires few { length log.now < 2147483648 }
+    ensures { (result ≡ true) ↔ GoesWith plan.now command.now line.now (length log.now) (work a.0 (reverse log.now)) }
+{
+    if is_heal_line(line) {
+        true
+    } else {
+        carries_out(tally, plan, log, a, command, line)
     }
 }
 
@@ -224,7 +260,7 @@ fn keeps_to_some(
     ensures { (result ≡ true) ↔ KeepsToSome plan.now (option_copied command.entry) line.now (length log.now) (work a.0 (reverse log.now)) }
 {
     match command {
-        Some(command) => keeps_to_command(tally, plan, log, a, command, line),
+        Some(command) => goes_with(tally, plan, log, a, command, line),
         None => false,
     }
 }
@@ -244,13 +280,13 @@ fn goes_some(
     ensures { (result ≡ true) ↔ GoesSome plan.now b line.now (work a.0 (reverse log.now)) }
 {
     match b {
-        Some(b) => keeps_to_round(log, a, b, lists.list(plan, log, a), line),
+        Some(b) => keeps_to_list(log, a, b, lists.list(plan, log, a), line),
         None => false,
     }
 }
 
-/// Whether a line keeps to its actor's present command or round.
-fn keeps_to_task(
+/// Whether a line is of its actor's present command or round.
+fn is_of_task(
     tally: &Tally,
     plan: &Plan,
     log: &[Line],
@@ -263,7 +299,7 @@ fn keeps_to_task(
     requires actors { HasFewActors plan.now }
     requires few { length log.now < 2147483648 }
     requires known { a.0 < 20 }
-    ensures { (result ≡ true) ↔ KeepsToTask false plan.now a.0 line.now (reverse log.now) }
+    ensures { (result ≡ true) ↔ IsOfTask plan.now a.0 line.now (reverse log.now) }
 {
     let ended = tally.ended(plan, log, a);
     if a.0 < 17 {
@@ -283,8 +319,8 @@ fn is_alive(tally: &Tally, plan: &Plan, log: &[Line], a: ActorId) -> bool
     !tally.is_killed(plan, log, a)
 }
 
-/// Whether an actor lives, and the line keeps to its present task.
-fn is_turn_of(
+/// Whether an actor lives, and the line is of its present task.
+fn has_turn(
     tally: &Tally,
     plan: &Plan,
     log: &[Line],
@@ -296,7 +332,7 @@ fn is_turn_of(
     requires lists { AreLists plan.now (reverse log.now) lists.now }
     requires actors { HasFewActors plan.now }
     requires few { length log.now < 2147483648 }
-    ensures { (result ≡ true) ↔ IsTurnOf false plan.now a.0 line.now (reverse log.now) }
+    ensures { (result ≡ true) ↔ HasTurn plan.now a.0 line.now (reverse log.now) }
 {
     if !is_actor(plan, a) {
         return false;
@@ -304,51 +340,58 @@ fn is_turn_of(
     if !is_alive(tally, plan, log, a) {
         return false;
     }
-    keeps_to_task(tally, plan, log, lists, a, line)
+    is_of_task(tally, plan, log, lists, a, line)
 }
 
 /// Whether a line of an actor is its turn, and no event is due.
-fn is_turn(tally: &Tally, plan: &Plan, log: &[Line], lists: &Lists, a: ActorId, line: &Line) -> bool
+fn comes_in_turn(
+    tally: &Tally,
+    plan: &Plan,
+    log: &[Line],
+    lists: &Lists,
+    a: ActorId,
+    line: &Line,
+) -> bool
     requires tally { IsTally plan.now (reverse log.now) tally.now }
     requires lists { AreLists plan.now (reverse log.now) lists.now }
     requires actors { HasFewActors plan.now }
     requires few { length log.now < 2147483648 }
-    ensures { (result ≡ true) ↔ (IsTurnOf false plan.now a.0 line.now (reverse log.now) × NoneDue plan.now (reverse log.now)) }
+    ensures { (result ≡ true) ↔ (HasTurn plan.now a.0 line.now (reverse log.now) × NoneDue plan.now (reverse log.now)) }
 {
     let none = none_due(tally, plan, log);
-    let turn = is_turn_of(tally, plan, log, lists, a, line);
+    let turn = has_turn(tally, plan, log, lists, a, line);
     both(turn, none)
 }
 
 /// Whether a line is what the plan has for its moment.
-fn is_due(tally: &Tally, plan: &Plan, log: &[Line], lists: &Lists, line: &Line) -> bool
+fn has_moment(tally: &Tally, plan: &Plan, log: &[Line], lists: &Lists, line: &Line) -> bool
     requires tally { IsTally plan.now (reverse log.now) tally.now }
     requires lists { AreLists plan.now (reverse log.now) lists.now }
     requires actors { HasFewActors plan.now }
     requires few { length log.now < 2147483648 }
-    ensures { (result ≡ true) ↔ IsDue false plan.now line.now (reverse log.now) }
+    ensures { (result ≡ true) ↔ HasMoment plan.now line.now (reverse log.now) }
 {
     match line {
-        Line::Ask { actor, .. } => is_turn(tally, plan, log, lists, *actor, line),
-        Line::Begin { actor, .. } => is_turn(tally, plan, log, lists, *actor, line),
-        Line::HealBegin { actor, .. } => is_turn(tally, plan, log, lists, *actor, line),
-        Line::End { actor, .. } => is_turn(tally, plan, log, lists, *actor, line),
-        Line::HealEnd { actor, .. } => is_turn(tally, plan, log, lists, *actor, line),
+        Line::Ask { actor, .. } => comes_in_turn(tally, plan, log, lists, *actor, line),
+        Line::Begin { actor, .. } => comes_in_turn(tally, plan, log, lists, *actor, line),
+        Line::HealBegin { actor, .. } => comes_in_turn(tally, plan, log, lists, *actor, line),
+        Line::End { actor, .. } => comes_in_turn(tally, plan, log, lists, *actor, line),
+        Line::HealEnd { actor, .. } => comes_in_turn(tally, plan, log, lists, *actor, line),
         Line::Event { event } => is_next_event(tally, plan, log, *event),
     }
 }
 
 /// Whether a line comes while the log has room, and is what the plan has for its moment: the next event, or a line of an actor that
-/// lives, which keeps to its present command or round, while no event is due. It takes as many steps as the log has lines.
+/// lives, of its present command or round, while no event is due. It takes as many steps as the log has lines.
 pub fn is_following(tally: &Tally, plan: &Plan, log: &[Line], lists: &Lists, line: &Line) -> bool
     requires tally { IsTally plan.now (reverse log.now) tally.now }
     requires lists { AreLists plan.now (reverse log.now) lists.now }
     requires actors { HasFewActors plan.now }
     requires few { length log.now < 2147483648 }
-    ensures { (result ≡ true) ↔ IsFollowing false plan.now line.now (reverse log.now) }
+    ensures { (result ≡ true) ↔ IsPlanned plan.now line.now (reverse log.now) }
 {
     if log.len() >= plan.turns as usize {
         return false;
     }
-    is_due(tally, plan, log, lists, line)
+    has_moment(tally, plan, log, lists, line)
 }

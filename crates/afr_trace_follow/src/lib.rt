@@ -1,12 +1,13 @@
 //! Whether a line of a trace is what the plan has for its moment, judged by a tally of the lines before.
 #![tactic(auto)]
 
+mod asked;
 mod commands;
 mod facts;
 mod following;
 mod keeping;
 mod lists;
-mod numbers;
+mod marked;
 mod parts;
 mod path;
 mod renamed;

@@ -2,14 +2,12 @@
 ghost use Rattle.std.specs.Prelude.{◌≡◌, ◌+◌, ◌-◌, ◌<◌, ◌≤◌, ◌∷◌, ℕ, [], List, IfOk, OnOk, length, reverse};
 ghost use Rattle.afr_lines.specs.Work.{work};
 ghost use Rattle.afr_lines.specs.declared.line.Line.{Line};
-ghost use Rattle.afr_model.specs.Rounds.{listed_by};
-ghost use Rattle.afr_model.specs.Tables.{holds};
-ghost use Rattle.afr_object.specs.Indexed.{index_of};
 ghost use Rattle.afr_plan.specs.declared.plan.Plan.{Plan};
-ghost use Rattle.afr_trace_follow.specs.Lists.{AreGiven, AreLists, AreNumbered, IsGivenTo, index_given};
+ghost use Rattle.afr_trace_follow.specs.Lists.{AreGiven, AreLists, IsGivenTo, index_given};
+ghost use Rattle.afr_trace_follow.specs.Marked.{list_of, marked_on};
 ghost use Rattle.afr_trace_tally.specs.Tally.{AsksKnown, IsTally};
 
-use crate::numbers::{Numbered, number_more, unnumbered};
+use crate::marked::marked_on;
 use afr_base::{ActorId, BrickId, Gfid, NoMemory, What};
 use afr_lines::{Line, Request, Told};
 use afr_object::{IndexList, List};
@@ -17,23 +15,10 @@ use afr_plan::Plan;
 use afr_trace_tally::{Tally, is_end, is_of};
 use std::alloc::Global;
 
-/// The list of each healer's present round, and what the next lists come from: the changelog numbers of each brick.
+/// The list of each healer's present round.
 #[derive(Drop)]
 pub struct Lists {
-    pub(crate) bricks: Vec<Numbered>,
     pub(crate) given: Vec<IndexList>,
-}
-
-fn new_bricks(alloc: Global) -> Result<Vec<Numbered>, NoMemory>
-    ensures { IfOk result (λ bricks. (p : Plan) → AreNumbered p [] bricks.items) }
-{
-    let mut bricks = Vec::new(alloc);
-    for b in 0..5 {
-        let _b: u8 = b;
-        let brick = unnumbered(alloc);
-        bricks.push(brick)?;
-    }
-    Ok(bricks)
 }
 
 fn new_given(alloc: Global) -> Result<Vec<IndexList>, NoMemory>
@@ -63,35 +48,20 @@ fn index_given(line: &Line) -> Option<BrickId>
     }
 }
 
-/// The list of the brick's index.
-fn listed(
-    bricks: &[Numbered],
-    plan: &Plan,
-    older: &[Line],
-    b: BrickId,
-) -> Result<IndexList, NoMemory>
-    requires are { AreNumbered plan.now (reverse older.now) bricks.now }
-    requires brick { b.0 < 5 }
-    ensures { IfOk result (λ list. list ≡ index_of (holds plan.now (reverse older.now) b.0)) }
-{
-    let _plan = plan;
-    let _older = older;
-    let numbered = &bricks[b.0 as usize];
-    numbered.index.list()
-}
-
 fn give_index(
     list: &mut IndexList,
-    bricks: &[Numbered],
+    alloc: Global,
+    tally: &Tally,
     plan: &Plan,
     older: &[Line],
     b: BrickId,
 ) -> Result<(), NoMemory>
-    requires are { AreNumbered plan.now (reverse older.now) bricks.now }
+    requires tally { IsTally plan.now (reverse older.now) tally.now }
+    requires few { length older.now < 2147483648 }
     requires brick { b.0 < 5 }
-    ensures ok { OnOk result (list.new ≡ index_of (holds plan.now (reverse older.now) b.0)) }
+    ensures ok { OnOk result (list.new ≡ marked_on plan.now (reverse older.now) b.0) }
 {
-    *list = listed(bricks, plan, older, b)?;
+    *list = marked_on(alloc, tally, plan, older, b)?;
     Ok(())
 }
 
@@ -100,13 +70,14 @@ fn give_index(
 fn give(
     list: &mut IndexList,
     alloc: Global,
-    bricks: &[Numbered],
+    tally: &Tally,
     plan: &Plan,
     i: usize,
     line: &Line,
     older: &[Line],
 ) -> Result<(), NoMemory>
-    requires are { AreNumbered plan.now (reverse older.now) bricks.now }
+    requires tally { IsTally plan.now (reverse older.now) tally.now }
+    requires few { length older.now < 2147483648 }
     requires was { IsGivenTo plan.now (reverse older.now) i list.old }
     requires known { AsksKnown line.now }
     requires healer { i < 3 }
@@ -120,7 +91,7 @@ fn give(
         return Ok(());
     }
     match index_given(line) {
-        Some(b) => give_index(list, bricks, plan, older, b),
+        Some(b) => give_index(list, alloc, tally, plan, older, b),
         None => Ok(()),
     }
 }
@@ -128,36 +99,19 @@ fn give(
 fn give_all(
     given: &mut Vec<IndexList>,
     alloc: Global,
-    bricks: &[Numbered],
-    plan: &Plan,
-    line: &Line,
-    older: &[Line],
-) -> Result<(), NoMemory>
-    requires are { AreNumbered plan.now (reverse older.now) bricks.now }
-    requires was { AreGiven plan.now (reverse older.now) given.old.items }
-    requires known { AsksKnown line.now }
-    ensures ok { OnOk result (AreGiven plan.now (line.now ∷ reverse older.now) given.new.items) }
-{
-    for i in 0..given.len() {
-        give(&mut given[i], alloc, bricks, plan, i, line, older)?;
-    }
-    Ok(())
-}
-
-fn number_all(
-    bricks: &mut Vec<Numbered>,
     tally: &Tally,
     plan: &Plan,
     line: &Line,
     older: &[Line],
 ) -> Result<(), NoMemory>
-    requires was { AreNumbered plan.now (reverse older.now) bricks.old.items }
     requires tally { IsTally plan.now (reverse older.now) tally.now }
     requires few { length older.now < 2147483648 }
-    ensures ok { OnOk result (AreNumbered plan.now (line.now ∷ reverse older.now) bricks.new.items) }
+    requires was { AreGiven plan.now (reverse older.now) given.old.items }
+    requires known { AsksKnown line.now }
+    ensures ok { OnOk result (AreGiven plan.now (line.now ∷ reverse older.now) given.new.items) }
 {
-    for b in 0..bricks.len() {
-        number_more(&mut bricks[b], tally, plan, BrickId(b as u8), line, older)?;
+    for i in 0..given.len() {
+        give(&mut given[i], alloc, tally, plan, i, line, older)?;
     }
     Ok(())
 }
@@ -167,13 +121,12 @@ impl Lists {
     pub fn new(alloc: Global) -> Result<Lists, NoMemory>
         ensures { IfOk result (λ lists. (p : Plan) → AreLists p [] lists) }
     {
-        let bricks = new_bricks(alloc)?;
         let given = new_given(alloc)?;
-        Ok(Lists { bricks, given })
+        Ok(Lists { given })
     }
 
-    /// After one more line, by the tally of the lines before it. It takes O(log n) steps on n objects, and one for each object that an
-    /// index lists. What was kept before is given up where it stops.
+    /// After one more line, by the tally of the lines before it. An Index line takes as many steps as the log has lines, and O(log n)
+    /// for each that may have raised a number, on n objects. What was kept before is given up where it stops.
     pub fn add(
         &mut self,
         alloc: Global,
@@ -188,16 +141,7 @@ impl Lists {
         requires few { length older.now < 2147483648 }
         ensures ok { OnOk result (AreLists plan.now (line.now ∷ reverse older.now) self.new) }
     {
-        give_all(
-            &mut self.given,
-            alloc,
-            self.bricks.as_slice(),
-            plan,
-            line,
-            older,
-        )?;
-        number_all(&mut self.bricks, tally, plan, line, older)?;
-        Ok(())
+        give_all(&mut self.given, alloc, tally, plan, line, older)
     }
 
     /// The list of a healer's present round.
@@ -205,7 +149,7 @@ impl Lists {
         requires lists { AreLists plan.now (reverse log.now) self.now }
         requires healer { 17 ≤ a.0 }
         requires known { a.0 < 20 }
-        ensures { result.now ≡ listed_by plan.now (work a.0 (reverse log.now)) }
+        ensures { result.now ≡ list_of plan.now (work a.0 (reverse log.now)) }
     {
         let _plan = plan;
         let _log = log;

@@ -1,224 +1,210 @@
 //! Whether a line of a rename keeps to its two paths.
-ghost use Rattle.std.specs.Prelude.{◌≡◌, ◌↔◌, ◌-◌, ◌<◌, ◌≤◌, ℕ, Some, false, true, length, reverse};
-ghost use Rattle.std.specs.Option.{option_map};
-ghost use Rattle.afr_lines.specs.Log.{change_of};
-ghost use Rattle.afr_lines.specs.Work.{work};
-ghost use Rattle.afr_model.specs.Commands.{last_of};
-ghost use Rattle.afr_model.specs.Keeping.{KeepsTo};
-ghost use Rattle.afr_model.specs.Parts.{Makes, the_removal, the_walk};
-ghost use Rattle.afr_model.specs.Renamed.{KeepsToPart, KeepsToRename};
-ghost use Rattle.afr_model.specs.Showing.{At as SpecAt};
-ghost use Rattle.afr_object.specs.declared.change.Change.{Change};
-ghost use Rattle.afr_trace_follow.specs.Keeping.{IsLinkAt, IsNamedAt};
-ghost use Rattle.afr_trace_follow.specs.Parts.{IsParted, IsWalked};
-ghost use Rattle.afr_trace_follow.specs.Seen.{path_seen};
+ghost use Rattle.std.specs.Prelude.{◌≡◌, ◌↔◌, ◌<◌, Bool, Some, true, length, reverse, slice_get};
+ghost use Rattle.afr_lines.specs.Work.{Work, work};
+ghost use Rattle.afr_base.specs.declared.ids.ActorId.{ActorId};
+ghost use Rattle.afr_base.specs.declared.ids.BrickId.{BrickId};
+ghost use Rattle.afr_lines.specs.declared.answer.Told.{Told};
+ghost use Rattle.afr_model.specs.Parts.{names_asked};
+ghost use Rattle.afr_trace_follow.specs.Renaming.{IsDueName, KeepsToPaths, change_due, dir_due, link_to, name_due, name_given, unlink_from};
 ghost use Rattle.afr_trace_tally.specs.Tally.{IsTally};
 
-use crate::commands::{makes_last, removes_last};
-use crate::facts::{both, is_not, same_number};
-use crate::keeping::keeps_by;
-use crate::parts::{Second, Walked, is_again, names_walked, parted};
-use crate::path::Path;
-use crate::stand::{at_start, stand_of, stand_on};
+use crate::asked::{asked_at, asked_past, dir_next, is_dir, is_sum};
+use crate::commands::{last_of, makes_last, removes_last};
+use crate::facts::{both, same_number};
 use afr_base::{ActorId, Gfid, NameId, What};
-use afr_lines::Line;
-use afr_object::Change;
-use afr_plan::{Command, Plan};
-use afr_trace_tally::{Tally, change_of};
+use afr_lines::{Line, Request};
+use afr_object::{Change, Entry};
+use afr_plan::Plan;
+use afr_trace_tally::Tally;
 
-/// Whether a line of the walk along the first path keeps to it.
-fn keeps_to_walk(
-    tally: &Tally,
-    plan: &Plan,
-    log: &[Line],
-    a: ActorId,
-    from: &[NameId],
-    line: &Line,
-    walk: Walked,
-) -> bool
-    requires tally { IsTally plan.now (reverse log.now) tally.now }
-    requires few { length log.now < 2147483648 }
-    requires walk { IsWalked (length from.now) a.0 (reverse log.now) walk }
-    ensures { (result ≡ true) ↔ KeepsTo plan.now (Command.Stat from.now) line.now (length log.now) (the_walk from.now (work a.0 (reverse log.now))) }
+// ---- the next name
+
+fn name_at(path: &[NameId], at: usize) -> Option<NameId>
+    ensures { result ≡ slice_get path.now at }
 {
-    let stand = stand_of(tally, plan, log, a, walk.end, from.len());
-    keeps_by(line, stand.path, from, false)
+    path.get(at).copied()
 }
 
-// ---- the new name
-
-fn is_file_at(read: usize, names: usize, what: What) -> bool
-    ensures { (result ≡ true) ↔ ((read ≡ names) × (what ≡ What.File)) }
+/// The name that comes after so many.
+fn name_due(from: &[NameId], to: &[NameId], names: usize) -> Option<NameId>
+    ensures { result ≡ name_due from.now to.now names }
 {
-    let all = same_number(read, names);
-    both(all, is_file(what))
-}
-
-fn is_file(what: What) -> bool
-    ensures { (result ≡ true) ↔ (what ≡ What.File) }
-{
-    match what {
-        What::File => true,
-        What::Dir => false,
+    if names < from.len() {
+        return name_at(from, names);
     }
-}
-
-/// The file that a path of so many names has led to.
-fn file_at(path: Path, names: usize) -> Option<Gfid>
-    ensures { (g : Gfid) → (result ≡ Some g) ↔ (path_seen path ≡ SpecAt names (record { gfid = g; what = What.File })) }
-{
-    match path {
-        Path::At(read, object) => {
-            if is_file_at(read, names, object.what) {
-                Some(object.gfid)
-            } else {
-                None
-            }
-        }
-        Path::NoName => None,
-        Path::Untold => None,
-    }
-}
-
-/// Whether a change gives a file the second path's last name, in the directory where its other names have led.
-fn links_at(file: Gfid, place: Path, to: &[NameId], change: &Change) -> bool
-    ensures { (result ≡ true) ↔ IsLinkAt file (path_seen place) to.now change.now }
-{
-    match place {
-        Path::At(read, dir) => {
-            let led = same_number(read, to.len().saturating_sub(1));
-            both(led, makes_last(change, dir.gfid, to, file, What::File))
-        }
-        Path::NoName => false,
-        Path::Untold => false,
-    }
-}
-
-/// Whether a change is the first one of the making, and gives the file its new name.
-fn begins_file(begun: bool, file: Option<Gfid>, place: Path, to: &[NameId], change: &Change) -> bool
-    ensures { (result ≡ true) ↔ ((begun ≡ false) × ((g : Gfid) × (file ≡ Some g) × IsLinkAt g (path_seen place) to.now change.now)) }
-{
-    match file {
-        Some(file) => {
-            let first = is_not(begun);
-            both(first, links_at(file, place, to, change))
-        }
-        None => false,
-    }
-}
-
-/// Whether a line that begins an attempt begins the first one of the making, and gives the file its new name.
-fn begins_link(line: &Line, begun: bool, file: Option<Gfid>, place: Path, to: &[NameId]) -> bool
-    ensures { (change : Change) → change_of line.now ≡ Some change → ((result ≡ true) ↔ ((begun ≡ false) × ((g : Gfid) × (file ≡ Some g) × IsLinkAt g (path_seen place) to.now change))) }
-{
-    match change_of(line) {
-        Some(change) => begins_file(begun, file, place, to, change),
-        None => false,
-    }
-}
-
-/// Whether a line of the making of the new name keeps to it.
-fn keeps_to_make(
-    tally: &Tally,
-    plan: &Plan,
-    log: &[Line],
-    a: ActorId,
-    from: &[NameId],
-    to: &[NameId],
-    line: &Line,
-    walk: Walked,
-    second: Second,
-) -> bool
-    requires tally { IsTally plan.now (reverse log.now) tally.now }
-    requires few { length log.now < 2147483648 }
-    requires walk { IsWalked (length from.now) a.0 (reverse log.now) walk }
-    requires second { IsParted a.0 (reverse log.now) second }
-    ensures { (result ≡ true) ↔ KeepsToPart Makes plan.now from.now to.now line.now (length log.now) (work a.0 (reverse log.now)) }
-{
-    let upto = second.start;
-    let names = to.len().saturating_sub(1);
-    let first = names_walked(&log[..upto], a, from.len());
-    let make = stand_on(tally, plan, log, a, first.end, upto, names, at_start());
-    let path = stand_of(tally, plan, log, a, walk.end, from.len()).path;
-    let file = file_at(path, from.len());
-    let begins = begins_link(line, make.begun, file, make.place, to);
-    keeps_by(line, make.path, to, begins)
-}
-
-// ---- the old name
-
-/// Whether a change removes a path's last name from the directory where its other names have led.
-fn removes_at(place: Path, from: &[NameId], change: &Change) -> bool
-    ensures { (position : ℕ) → (result ≡ true) ↔ IsNamedAt (path_seen place) (Command.Unlink from.now) position change.now }
-{
-    match place {
-        Path::At(read, dir) => {
-            let led = same_number(read, from.len().saturating_sub(1));
-            both(led, removes_last(change, dir.gfid, from, What::File))
-        }
-        Path::NoName => false,
-        Path::Untold => false,
-    }
-}
-
-/// Whether a line that begins an attempt begins the first one of the removal, and takes the old name away.
-fn begins_removal(line: &Line, begun: bool, place: Path, from: &[NameId]) -> bool
-    ensures { (position : ℕ) (change : Change) → change_of line.now ≡ Some change → ((result ≡ true) ↔ ((begun ≡ false) × IsNamedAt (path_seen place) (Command.Unlink from.now) position change)) }
-{
-    match change_of(line) {
-        Some(change) => {
-            let first = is_not(begun);
-            both(first, removes_at(place, from, change))
-        }
-        None => false,
-    }
-}
-
-/// Whether a line of the removal of the old name keeps to it.
-fn keeps_to_removal(
-    tally: &Tally,
-    plan: &Plan,
-    log: &[Line],
-    a: ActorId,
-    from: &[NameId],
-    line: &Line,
-    second: Second,
-) -> bool
-    requires tally { IsTally plan.now (reverse log.now) tally.now }
-    requires few { length log.now < 2147483648 }
-    requires second { IsParted a.0 (reverse log.now) second }
-    ensures { (result ≡ true) ↔ KeepsTo plan.now (Command.Unlink from.now) line.now (length log.now) (the_removal from.now (work a.0 (reverse log.now))) }
-{
-    let names = from.len().saturating_sub(1);
-    let dir = names_walked(log, a, names);
-    let walk = stand_of(tally, plan, log, a, dir.end, names);
-    let removal = stand_on(tally, plan, log, a, second.start, log.len(), names, walk);
-    let begins = begins_removal(line, removal.begun, removal.place, from);
-    keeps_by(line, removal.path, from, begins)
-}
-
-/// Whether a line of the actor's present work keeps to a rename: by the names that the work has asked, and by its transactions, it is of
-/// the walk, of the making of the new name, or of the removal of the old one.
-pub(crate) fn keeps_to_rename(
-    tally: &Tally,
-    plan: &Plan,
-    log: &[Line],
-    a: ActorId,
-    from: &[NameId],
-    to: &[NameId],
-    line: &Line,
-) -> bool
-    requires tally { IsTally plan.now (reverse log.now) tally.now }
-    requires few { length log.now < 2147483648 }
-    ensures { (result ≡ true) ↔ KeepsToRename plan.now from.now to.now line.now (length log.now) (work a.0 (reverse log.now)) }
-{
-    let walk = names_walked(log, a, from.len());
-    let second = parted(log, a);
-    if is_again(line, second) {
-        keeps_to_removal(tally, plan, log, a, from, line, second)
-    } else if walk.names < from.len() {
-        keeps_to_walk(tally, plan, log, a, from, line, walk)
+    let past = names - from.len();
+    if past == to.len() {
+        last_of(from)
     } else {
-        keeps_to_make(tally, plan, log, a, from, to, line, walk, second)
+        name_at(to, past)
+    }
+}
+
+/// Where the next name is asked.
+fn dir_due(
+    tally: &Tally,
+    plan: &Plan,
+    log: &[Line],
+    a: ActorId,
+    from: &[NameId],
+    to: &[NameId],
+    names: usize,
+) -> Option<Gfid>
+    requires tally { IsTally plan.now (reverse log.now) tally.now }
+    requires few { length log.now < 2147483648 }
+    requires names { names ≡ names_asked (work a.0 (reverse log.now)) }
+    ensures { result ≡ dir_due plan.now from.now to.now (work a.0 (reverse log.now)) }
+{
+    if same_number(names, from.len()) {
+        return Some(Gfid(1));
+    }
+    if is_sum(names, from.len(), to.len()) {
+        return asked_at(tally, plan, log, a, from.len()).dir;
+    }
+    dir_next(tally, plan, log, a, names)
+}
+
+fn is_name(due: Option<NameId>, name: NameId) -> bool
+    ensures { (result ≡ true) ↔ (due ≡ Some name) }
+{
+    match due {
+        Some(next) => next == name,
+        None => false,
+    }
+}
+
+/// Whether a name is the one that comes next, asked where it is to be asked.
+fn is_due_name(
+    tally: &Tally,
+    plan: &Plan,
+    log: &[Line],
+    a: ActorId,
+    from: &[NameId],
+    to: &[NameId],
+    g: Gfid,
+    name: NameId,
+) -> bool
+    requires tally { IsTally plan.now (reverse log.now) tally.now }
+    requires few { length log.now < 2147483648 }
+    ensures { (result ≡ true) ↔ IsDueName plan.now from.now to.now g name (work a.0 (reverse log.now)) }
+{
+    let names = asked_at(tally, plan, log, a, 0).names;
+    let within = is_dir(dir_due(tally, plan, log, a, from, to, names), g);
+    let named = is_name(name_due(from, to, names), name);
+    both(named, within)
+}
+
+// ---- the next change
+
+/// Whether a change gives a file the second path's last name, in this directory.
+fn gives_name(file: Gfid, dir: Option<Gfid>, to: &[NameId], change: &Change) -> bool
+    ensures { (result ≡ true) ↔ (name_given file dir to.now ≡ Some change.now) }
+{
+    match dir {
+        Some(dir) => makes_last(change, dir, to, file, What::File),
+        None => false,
+    }
+}
+
+fn links_to(found: Option<Entry>, dir: Option<Gfid>, to: &[NameId], change: &Change) -> bool
+    ensures { (result ≡ true) ↔ (link_to found dir to.now ≡ Some change.now) }
+{
+    match found {
+        Some(found) => gives_name(found.gfid, dir, to, change),
+        None => false,
+    }
+}
+
+/// Whether a change removes the first path's last name from this directory.
+fn unlinks_from(dir: Option<Gfid>, from: &[NameId], change: &Change) -> bool
+    ensures { (result ≡ true) ↔ (unlink_from dir from.now ≡ Some change.now) }
+{
+    match dir {
+        Some(dir) => removes_last(change, dir, from, What::File),
+        None => false,
+    }
+}
+
+/// Whether a change is the one that is begun next: what the first path has led to gets its new name, then the old one is taken away.
+fn is_due_change(
+    tally: &Tally,
+    plan: &Plan,
+    log: &[Line],
+    a: ActorId,
+    from: &[NameId],
+    to: &[NameId],
+    change: &Change,
+) -> bool
+    requires tally { IsTally plan.now (reverse log.now) tally.now }
+    requires few { length log.now < 2147483648 }
+    ensures { (result ≡ true) ↔ (change_due plan.now from.now to.now (work a.0 (reverse log.now)) ≡ Some change.now) }
+{
+    let old = asked_at(tally, plan, log, a, from.len());
+    if old.begun == 0 {
+        let new = asked_past(tally, plan, log, a, from.len(), to.len());
+        links_to(old.entry, new.dir, to, change)
+    } else if old.begun == 1 {
+        unlinks_from(old.dir, from, change)
+    } else {
+        false
+    }
+}
+
+// ---- a line
+
+fn keeps_asked(
+    tally: &Tally,
+    plan: &Plan,
+    log: &[Line],
+    a: ActorId,
+    from: &[NameId],
+    to: &[NameId],
+    request: &Request,
+) -> bool
+    requires tally { IsTally plan.now (reverse log.now) tally.now }
+    requires few { length log.now < 2147483648 }
+    ensures { (x : ActorId) (b : BrickId) (told : Told) (took : Bool) → (result ≡ true) ↔ KeepsToPaths plan.now from.now to.now (Line.Ask x b request.now told took) (work a.0 (reverse log.now)) }
+{
+    match request {
+        Request::ReadName { gfid, name } => {
+            is_due_name(tally, plan, log, a, from, to, *gfid, *name)
+        }
+        Request::Lock { .. } => true,
+        Request::Unlock { .. } => true,
+        Request::Look { .. } => true,
+        Request::ReadBytes { .. } => true,
+        Request::List { .. } => true,
+        Request::ReadAttr { .. } => true,
+        Request::ReadAttrs { .. } => true,
+        Request::Index => true,
+        Request::Pre { .. } => true,
+        Request::Apply { .. } => true,
+        Request::Post { .. } => true,
+        Request::Mend { .. } => true,
+        Request::Settle { .. } => true,
+    }
+}
+
+/// Whether a line of the actor's present work keeps to a rename: it asks the next name, begins the next change, or does neither.
+pub(crate) fn keeps_to_paths(
+    tally: &Tally,
+    plan: &Plan,
+    log: &[Line],
+    a: ActorId,
+    from: &[NameId],
+    to: &[NameId],
+    line: &Line,
+) -> bool
+    requires tally { IsTally plan.now (reverse log.now) tally.now }
+    requires few { length log.now < 2147483648 }
+    ensures { (result ≡ true) ↔ KeepsToPaths plan.now from.now to.now line.now (work a.0 (reverse log.now)) }
+{
+    match line {
+        Line::Ask { request, .. } => keeps_asked(tally, plan, log, a, from, to, request),
+        Line::Begin { change, .. } => is_due_change(tally, plan, log, a, from, to, change),
+        Line::HealBegin { .. } => false,
+        Line::HealEnd { .. } => false,
+        Line::End { .. } => true,
+        Line::Event { .. } => true,
     }
 }

@@ -1,18 +1,17 @@
 //! Whether a line of a healer keeps to its round.
-ghost use Rattle.std.specs.Prelude.{◌≡◌, ◌↔◌, ◌+◌, ◌<◌, ◌≤◌, ◌||◌, ◌==◌, ◌^◌, ◌∷◌, Bool, List, None, Some, false, true, length, reverse, if◌then◌else◌};
+ghost use Rattle.std.specs.Prelude.{◌≡◌, ◌↔◌, ◌+◌, ◌<◌, ◌≤◌, ◌==◌, ◌^◌, ◌∷◌, Bool, List, None, Some, false, true, is_some, length, reverse, if◌then◌else◌};
 ghost use Rattle.afr_base.specs.declared.ids.ActorId.{ActorId};
-ghost use Rattle.afr_lines.specs.Areas.{object_of_area};
+ghost use Rattle.afr_base.specs.declared.ids.BrickId.{BrickId};
 ghost use Rattle.afr_lines.specs.Work.{Work, is_end, is_of, work};
 ghost use Rattle.afr_lines.specs.declared.answer.Told.{Told};
 ghost use Rattle.afr_lines.specs.declared.line.Line.{Line};
-ghost use Rattle.afr_model.specs.Rounds.{KeepsToIndexed, due_in, kind_within, object_healed, plus_healed};
-ghost use Rattle.afr_object.specs.Repairs.{repaired};
-ghost use Rattle.afr_trace_follow.specs.Healing.{IsHealOf, IsHealing, has_line, is_index, nth_heal};
+ghost use Rattle.afr_model.specs.Rounds.{due_in, kind_within, plus_healed};
+ghost use Rattle.afr_trace_follow.specs.Healing.{IsHealing, is_index, nth_heal};
+ghost use Rattle.afr_trace_follow.specs.Turns.{AsksIndex, HealsInTurn, KeepsToList};
 
-use crate::facts::{both, is_not, same_brick, same_gfid};
+use crate::facts::{both, same_brick, same_gfid};
 use afr_base::{ActorId, BrickId, Gfid, Kind, What};
-use afr_lines::{Area, Line, Request};
-use afr_object::Repair;
+use afr_lines::{Line, Request};
 use afr_trace_tally::{is_end, is_of};
 
 // ---- the heals of a list
@@ -113,48 +112,6 @@ fn heals_made(log: &[Line], a: ActorId) -> Healing
 
 // ---- a line
 
-fn object_of_area(area: &Area) -> Gfid
-    ensures { result ≡ object_of_area area.now }
-{
-    match area {
-        Area::Range { gfid, .. } => *gfid,
-        Area::Name { gfid, .. } => *gfid,
-    }
-}
-
-fn repaired(repair: Repair) -> Gfid
-    ensures { result ≡ repaired repair }
-{
-    match repair {
-        Repair::CutTo { gfid, .. } => gfid,
-        Repair::Copy { gfid, .. } => gfid,
-        Repair::PutAttrs { gfid, .. } => gfid,
-        Repair::PutNames { gfid, .. } => gfid,
-    }
-}
-
-/// The object of a heal's request; requests that no heal makes have none.
-fn object_healed(request: &Request) -> Option<Gfid>
-    ensures { result ≡ object_healed request.now }
-{
-    match request {
-        Request::Lock { area, .. } => Some(object_of_area(area)),
-        Request::Unlock { area, .. } => Some(object_of_area(area)),
-        Request::Look { gfid } => Some(*gfid),
-        Request::ReadBytes { gfid, .. } => Some(*gfid),
-        Request::List { gfid } => Some(*gfid),
-        Request::ReadAttrs { gfid } => Some(*gfid),
-        Request::Pre { gfid, .. } => Some(*gfid),
-        Request::Mend { repair } => Some(repaired(*repair)),
-        Request::Settle { gfid, .. } => Some(*gfid),
-        Request::ReadName { .. } => None,
-        Request::ReadAttr { .. } => None,
-        Request::Index => None,
-        Request::Apply { .. } => None,
-        Request::Post { .. } => None,
-    }
-}
-
 fn is_index(request: &Request) -> bool
     ensures { result ≡ is_index request.now }
 {
@@ -184,25 +141,10 @@ fn is_due(due: Option<(Gfid, Kind)>, g: Gfid, kind: Kind) -> bool
     }
 }
 
-/// Whether it is of this object.
-fn is_heal_of(due: Option<(Gfid, Kind)>, object: Option<Gfid>) -> bool
-    ensures { (result ≡ true) ↔ IsHealOf due object }
+fn is_left(due: Option<(Gfid, Kind)>) -> bool
+    ensures { (result ≡ true) ↔ (is_some due ≡ true) }
 {
-    let Some((gfid, _)) = due else {
-        return false;
-    };
-    match object {
-        Some(object) => same_gfid(gfid, object),
-        None => false,
-    }
-}
-
-/// Whether nothing was asked yet, and the brick is that of the round.
-fn asks_index(b: BrickId, begun: bool, brick: BrickId) -> bool
-    ensures { (result ≡ true) ↔ ((begun ≡ false) × (brick ≡ b)) }
-{
-    let first = is_not(begun);
-    both(first, same_brick(brick, b))
+    due.is_some()
 }
 
 fn is_nothing(due: Option<(Gfid, Kind)>) -> bool
@@ -214,46 +156,59 @@ fn is_nothing(due: Option<(Gfid, Kind)>) -> bool
     }
 }
 
-/// Whether the work has begun, and nothing is left to heal.
-fn is_healed(due: Option<(Gfid, Kind)>, begun: bool) -> bool
-    ensures { (result ≡ true) ↔ ((begun ≡ true) × (due ≡ None)) }
-{
-    both(begun, is_nothing(due))
-}
-
-/// Whether a request of a round asks first for the index of its brick, then is about the heal that is due.
-fn asks_heal(
-    b: BrickId,
-    due: Option<(Gfid, Kind)>,
-    begun: bool,
-    brick: BrickId,
-    request: &Request,
-) -> bool
-    ensures { (list : List (Gfid × What)) (w : Work) (a : ActorId) (told : Told) (took : Bool) → due ≡ due_in list w → begun ≡ has_line w → (result ≡ true) ↔ KeepsToIndexed b list (Line.Ask a brick request.now told took) w }
+/// Whether a request asks for the index of this brick.
+fn asks_index(b: BrickId, brick: BrickId, request: &Request) -> bool
+    ensures { (a : ActorId) (told : Told) (took : Bool) → (result ≡ true) ↔ AsksIndex b (Line.Ask a brick request.now told took) }
 {
     if is_index(request) {
-        asks_index(b, begun, brick)
+        same_brick(brick, b)
     } else {
-        is_heal_of(due, object_healed(request))
+        false
     }
 }
 
-/// Whether a line asks first for the index of the round's brick, then heals what is due, and ends where nothing is left.
-fn keeps_to_heals(b: BrickId, due: Option<(Gfid, Kind)>, begun: bool, line: &Line) -> bool
-    ensures { (list : List (Gfid × What)) (w : Work) → due ≡ due_in list w → begun ≡ has_line w → (result ≡ true) ↔ KeepsToIndexed b list line.now w }
+/// Whether a line asks for the index of this brick.
+fn begins_round(b: BrickId, line: &Line) -> bool
+    ensures { (result ≡ true) ↔ AsksIndex b line.now }
 {
     match line {
-        Line::Ask { brick, request, .. } => asks_heal(b, due, begun, *brick, request),
-        Line::HealBegin { gfid, kind, .. } => is_due(due, *gfid, *kind),
-        Line::HealEnd { gfid, kind, .. } => is_due(due, *gfid, *kind),
-        Line::End { .. } => is_healed(due, begun),
+        Line::Ask { brick, request, .. } => asks_index(b, *brick, request),
+        Line::HealBegin { .. } => false,
+        Line::HealEnd { .. } => false,
+        Line::End { .. } => false,
         Line::Begin { .. } => false,
         Line::Event { .. } => false,
     }
 }
 
+/// Whether a request comes while a heal is left, and doesn't ask for an index again.
+fn heals_on(due: Option<(Gfid, Kind)>, request: &Request) -> bool
+    ensures { (list : List (Gfid × What)) (w : Work) (a : ActorId) (b : BrickId) (told : Told) (took : Bool) → due ≡ due_in list w → (result ≡ true) ↔ HealsInTurn list (Line.Ask a b request.now told took) w }
+{
+    if is_index(request) {
+        false
+    } else {
+        is_left(due)
+    }
+}
+
+/// Whether a line goes on with a round: it ends the heal that is due, ends the round where none is left, or does anything else but ask
+/// for an index again or begin an attempt.
+fn heals_in_turn(due: Option<(Gfid, Kind)>, line: &Line) -> bool
+    ensures { (list : List (Gfid × What)) (w : Work) → due ≡ due_in list w → (result ≡ true) ↔ HealsInTurn list line.now w }
+{
+    match line {
+        Line::Ask { request, .. } => heals_on(due, request),
+        Line::HealBegin { .. } => is_left(due),
+        Line::HealEnd { gfid, kind, .. } => is_due(due, *gfid, *kind),
+        Line::End { .. } => is_nothing(due),
+        Line::Begin { .. } => false,
+        Line::Event { .. } => is_left(due),
+    }
+}
+
 /// Whether a line of the actor's present work keeps to a round over the index of a brick, which gave this list.
-pub(crate) fn keeps_to_round(
+pub(crate) fn keeps_to_list(
     log: &[Line],
     a: ActorId,
     b: BrickId,
@@ -261,9 +216,13 @@ pub(crate) fn keeps_to_round(
     line: &Line,
 ) -> bool
     requires { length log.now < 2147483648 }
-    ensures { (result ≡ true) ↔ KeepsToIndexed b list.now line.now (work a.0 (reverse log.now)) }
+    ensures { (result ≡ true) ↔ KeepsToList b list.now line.now (work a.0 (reverse log.now)) }
 {
     let at = heals_made(log, a);
-    let due = nth_heal(list, at.healed);
-    keeps_to_heals(b, due, at.begun, line)
+    let begun = at.begun;
+    if begun {
+        heals_in_turn(nth_heal(list, at.healed), line)
+    } else {
+        begins_round(b, line)
+    }
 }

@@ -38,7 +38,7 @@ pub(crate) fn at_start() -> Stand
     }
 }
 
-fn begins_attempt(line: &Line) -> bool
+pub(crate) fn begins_attempt(line: &Line) -> bool
     ensures { result ≡ begins_attempt line.now }
 {
     match line {

@@ -3,6 +3,7 @@ ghost use Rattle.std.specs.Prelude.{◌≡◌, ◌-◌, ◌<◌, ◌≤◌, ℕ,
 ghost use Rattle.afr_base.specs.Bricks.{member};
 ghost use Rattle.afr_lines.specs.Locks.{first_conflict};
 ghost use Rattle.afr_lines.specs.Overlap.{overlap};
+ghost use Rattle.afr_lines.specs.Places.{opens, place_of};
 ghost use Rattle.afr_lines.specs.Work.{ended, events_made, is_killed};
 ghost use Rattle.afr_model.specs.Honest.{requests_to};
 ghost use Rattle.afr_model.specs.Locks.{locks_held};
@@ -27,7 +28,7 @@ use crate::contents::{Kept, kept_at, names_in};
 use crate::counts::{Count, count_at};
 use crate::entries::entry_in;
 use crate::locks::first_conflict;
-use crate::sessions::opens_with;
+use crate::sessions::{opens, opens_with};
 use crate::tally::Tally;
 use afr_base::{ActorId, BrickId, Gfid, Kind, Marks, NoMemory};
 use afr_brick::Brick;
@@ -165,6 +166,15 @@ impl Tally {
         let started = self.is_started(plan, log, b);
         let linked = self.is_linked(plan, log, a, b);
         opens_with(a, line, place, started, linked)
+    }
+
+    /// Whether the actor's next line is the first of a work or of a heal, where it is this one.
+    pub fn opens(&self, plan: &Plan, log: &[Line], a: ActorId, line: &Line) -> bool
+        requires tally { IsTally plan.now (reverse log.now) self.now }
+        requires known { a.0 < 20 }
+        ensures { result ≡ opens (place_of a.0 (reverse log.now)) line.now }
+    {
+        opens(self.actor(plan, log, a).place, line)
     }
 
     // ---- bricks

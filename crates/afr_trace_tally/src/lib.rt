@@ -17,4 +17,4 @@ mod works;
 pub use stop::TallyStop;
 pub use tables::{change_at, change_of};
 pub use tally::{Tally, asks_known};
-pub use works::{is_end, is_of};
+pub use works::{ends_work, is_end, is_of};

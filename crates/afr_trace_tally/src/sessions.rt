@@ -64,7 +64,7 @@ fn is_heal_lock(line: &Line) -> bool
 }
 
 /// Whether a line of the actor opens sessions: it is the first of a work or of a heal.
-fn opens(place: Place, line: &Line) -> bool
+pub(crate) fn opens(place: Place, line: &Line) -> bool
     ensures { result ≡ opens (place_seen place) line.now }
 {
     match place {

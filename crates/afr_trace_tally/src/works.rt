@@ -30,7 +30,7 @@ pub fn is_end(line: &Line) -> bool
 }
 
 /// Whether a line ends a work of the actor.
-pub(crate) fn ends_work(a: ActorId, line: &Line) -> bool
+pub fn ends_work(a: ActorId, line: &Line) -> bool
     ensures { result ≡ ends_work a.0 line.now }
 {
     match line {

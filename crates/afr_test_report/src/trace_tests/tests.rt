@@ -1,10 +1,8 @@
-//! The text of each kind of line, and the traces of worked logs.
+//! The text of each kind of line.
 
 use crate::trace_tests::lines::{answers, changes, events, gifts, heals, refusals};
 use crate::trace_tests::requests::{five_bricks, locks_and_looks, other_reads, phases, repairs};
-use crate::trace_tests::traced::{reads, worked_reads};
-use crate::trace_tests::worked;
-use afr_check_logs::Worked;
+use crate::trace_tests::traced::reads;
 use std::test::Fail;
 
 const LOCKS_AND_LOOKS: &str = "\
@@ -155,26 +153,6 @@ fn each_other_line_has_its_text(rt: HostRuntime) -> Result<(), Fail> {
     ] {
         let holds = reads(alloc, 3, log, text);
         assert!(rt; holds, "{text}");
-    }
-    Ok(())
-}
-
-#[test]
-fn a_worked_log_has_the_trace_that_was_worked_out(rt: HostRuntime) -> Result<(), Fail> {
-    for (worked, text) in [
-        (Worked::WriteAndRead, worked::WRITE_AND_READ),
-        (Worked::OneBrickAway, worked::ONE_BRICK_AWAY),
-        (Worked::LostAnswerThenHeal, worked::LOST_ANSWER_THEN_HEAL),
-        (
-            Worked::RemovedNameStaysRemoved,
-            worked::REMOVED_NAME_STAYS_REMOVED,
-        ),
-        (Worked::Arbiter, worked::ARBITER),
-        (Worked::OperationFailsOnTwo, worked::OPERATION_FAILS_ON_TWO),
-        (Worked::StaleHealPiece, worked::STALE_HEAL_PIECE),
-    ] {
-        let holds = worked_reads(rt.alloc(), worked, text);
-        assert!(rt; holds, "{worked:?}");
     }
     Ok(())
 }

@@ -1,7 +1,6 @@
-//! The trace of a log of a small plan, and of a worked log.
+//! The trace of a log of a small plan.
 
 use afr_base::{NoMemory, Shape};
-use afr_check_logs::{Worked, log_of, plan_of};
 use afr_lines::Line;
 use afr_log::Log;
 use afr_object::List;
@@ -43,14 +42,6 @@ fn word(alloc: Global, text: &[u8]) -> Result<Word, NoMemory> {
 /// Whether the small plan's log has this trace.
 pub fn reads(alloc: Global, n: u8, log: Result<Vec<Line>, NoMemory>, text: &str) -> bool {
     match (small_plan(alloc, n), log) {
-        (Ok(plan), Ok(log)) => is_trace(alloc, &plan, log, text),
-        _ => false,
-    }
-}
-
-/// Whether the worked log has this trace.
-pub fn worked_reads(alloc: Global, worked: Worked, text: &str) -> bool {
-    match (plan_of(alloc, worked), log_of(alloc, worked)) {
         (Ok(plan), Ok(log)) => is_trace(alloc, &plan, log, text),
         _ => false,
     }

@@ -7,4 +7,4 @@ pub returns-then-log-plan : goal.returns-then-log-plan
 returns-then-log-plan c = never _ _ refl (λ k. absurd (omega (arith, k.0, length-reverse c.args.log.now)))
 
 pub returns : goal.returns
-returns c = (λ yes. (omega (arith, length-reverse c.args.log.now), c.is_due.ensures.0 yes), λ k. c.is_due.ensures.1 k.1)
+returns c = (λ yes. (omega (arith, length-reverse c.args.log.now), c.has_moment.ensures.0 yes), λ k. c.has_moment.ensures.1 k.1)

@@ -1,4 +1,4 @@
 use Rattle.afr_trace_follow.proofs.following.keeps_to_some.Goals as goal
 
 pub returns-in-Some : goal.returns-in-Some
-returns-in-Some c = rw c.in-Some.is c.keeps_to_command.ensures
+returns-in-Some c = rw c.in-Some.is c.goes_with.ensures

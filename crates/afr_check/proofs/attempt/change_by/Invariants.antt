@@ -1,8 +1,0 @@
-use Rattle.std.proofs.Common.{◌≡◌, take, reverse}
-use Rattle.std.specs.Option.{option_copied}
-use Rattle.afr_lines.specs.Work.{work}
-use Rattle.afr_model.specs.Standing.{change_by}
-use Rattle.afr_check.proofs.attempt.change_by.Given as goal
-
-abbrev pub invariant-loop-line : goal.invariant-loop-line
-invariant-loop-line l = option_copied l.change ≡ change_by (work l.a.0 (reverse (take l.line-index l.log)))

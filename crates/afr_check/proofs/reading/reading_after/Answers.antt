@@ -1,4 +1,0 @@
-use Rattle.afr_check.proofs.reading.reading_after.Goals as goal
-
-pub returns-in-Ask : goal.returns-in-Ask
-returns-in-Ask c = record { ok = rw c.in-Ask.is (c.reading_asked.ensures.ok c.in-Ask.actor c.in-Ask.took) }

@@ -1,7 +1,0 @@
-use Rattle.std.proofs.Common.{◌≡◌, take, reverse}
-use Rattle.afr_lines.specs.Work.{work}
-use Rattle.afr_model.specs.Showing.{looked_by}
-use Rattle.afr_check.proofs.showing.looked_by.Given as goal
-
-abbrev pub invariant-loop-line : goal.invariant-loop-line
-invariant-loop-line l = l.looked ≡ looked_by l.g (work l.a.0 (reverse (take l.line-index l.log)))

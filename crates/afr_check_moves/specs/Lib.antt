@@ -1,6 +1,0 @@
-pub mod Followed
-pub mod Judged
-pub mod Limits
-pub mod New
-pub mod Unfitting
-pub mod Unlawful

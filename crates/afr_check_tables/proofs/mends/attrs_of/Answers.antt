@@ -1,6 +1,0 @@
-use Rattle.afr_object.specs.Tables.{key_cmp}
-use Rattle.afr_check_tables.proofs.MendsLemmas.{none_in_order}
-use Rattle.afr_check_tables.proofs.mends.attrs_of.Goals as goal
-
-pub returns-in-Err-NoObject-clause-order : goal.returns-in-Err-NoObject-clause-order
-returns-in-Err-NoObject-clause-order c = rw c.new.ensures (none_in_order key_cmp)

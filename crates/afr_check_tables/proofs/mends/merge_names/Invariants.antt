@@ -1,6 +1,0 @@
-use Rattle.std.proofs.Common.{◌≡◌, ◌-◌, length, drop}
-use Rattle.afr_object.specs.Repairs.{merged_into}
-use Rattle.afr_check_tables.proofs.mends.merge_names.Given as goal
-
-abbrev pub invariant-loop-i : goal.invariant-loop-i
-invariant-loop-i l = l.into ≡ merged_into l.fn.into (drop (length l.names - l.i) l.names)

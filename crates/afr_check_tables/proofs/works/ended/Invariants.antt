@@ -1,9 +1,0 @@
-use Rattle.std.proofs.Common.{◌≡◌, ◌≤◌, take, reverse}
-use Rattle.afr_lines.specs.Work.{ended}
-use Rattle.afr_check_tables.proofs.works.ended.Given as goal
-
-abbrev pub invariant-loop-line : goal.invariant-loop-line
-invariant-loop-line l = record {
-  counts : l.works ≡ ended l.a.0 (reverse (take l.line-index l.log));
-  small : l.works ≤ l.line-index;
-}

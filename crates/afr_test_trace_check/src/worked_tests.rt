@@ -1,0 +1,85 @@
+//! Worked traces are right whole and keep the discipline; a move that breaks it is found at its line.
+
+use crate::built::{ended_by, log_of, plan_of};
+use crate::worked::{
+    lost_answer, lost_answer_trace, moved, moved_trace, write_and_read, write_and_read_trace,
+};
+use afr_trace_check::{CheckStop, Finding, check};
+use afr_trace_moves::{first_unlawful, makes_new_alone};
+use std::alloc::Global;
+use std::test::Fail;
+
+/// What is found of the trace of a plan.
+fn found(alloc: Global, plan: &str, trace: &str) -> Result<Result<Finding, CheckStop>, Fail> {
+    let plan = plan_of(alloc, plan)?;
+    Ok(check(alloc, &plan, trace.as_bytes()))
+}
+
+#[test]
+fn a_worked_trace_keeps_every_rule(rt: HostRuntime) -> Result<(), Fail> {
+    let write = found(rt.alloc(), write_and_read(), write_and_read_trace())?;
+    assert!(rt; write == Ok(Finding::Yes(33)));
+    let heal = found(rt.alloc(), lost_answer(), lost_answer_trace())?;
+    assert!(rt; heal == Ok(Finding::Yes(88)));
+    Ok(())
+}
+
+/// Whether the first line that breaks the discipline is the one at this position, and what is made is new where this says so.
+fn breaks_at(alloc: Global, plan: &str, trace: &str, at: usize, new: bool) -> Result<bool, Fail> {
+    let plan = plan_of(alloc, plan)?;
+    let log = log_of(alloc, &plan, trace)?;
+    let first = first_unlawful(alloc, &plan, log.as_slice());
+    Ok(makes_new_alone(log.as_slice()) == new && first == Ok(at))
+}
+
+#[test]
+fn each_line_of_a_worked_trace_keeps_the_discipline(rt: HostRuntime) -> Result<(), Fail> {
+    let write = breaks_at(
+        rt.alloc(),
+        write_and_read(),
+        write_and_read_trace(),
+        33,
+        true,
+    )?;
+    assert!(rt; write);
+    let heal = breaks_at(rt.alloc(), lost_answer(), lost_answer_trace(), 88, true)?;
+    assert!(rt; heal);
+    Ok(())
+}
+
+#[test]
+fn a_command_that_closes_its_write_at_one_brick_breaks_the_discipline(
+    rt: HostRuntime,
+) -> Result<(), Fail> {
+    let trace = ended_by(rt.alloc(), write_and_read_trace(), 18, "18 c1 end ok")?;
+    let broken = breaks_at(rt.alloc(), write_and_read(), trace.as_str(), 18, true)?;
+    assert!(rt; broken);
+    Ok(())
+}
+
+#[test]
+fn a_heal_that_takes_back_what_it_has_not_seen_breaks_the_discipline(
+    rt: HostRuntime,
+) -> Result<(), Fail> {
+    let more = "78 h1 b1 settle f1 data 1 0 0 2 done";
+    let trace = ended_by(rt.alloc(), lost_answer_trace(), 78, more)?;
+    let broken = breaks_at(rt.alloc(), lost_answer(), trace.as_str(), 78, true)?;
+    assert!(rt; broken);
+    Ok(())
+}
+
+/// A name that is made leads to a new object, or to one that its command read.
+#[test]
+fn a_made_gfid_is_new_or_was_read(rt: HostRuntime) -> Result<(), Fail> {
+    for (text, first, new) in [
+        ("11 c1 begin create g1/g g13", 12, true),
+        ("11 c1 begin create g1/g g12", 11, false),
+        ("11 c1 begin create g1/g f1", 12, false),
+        ("11 c1 begin mkdir g1/g f1", 11, false),
+    ] {
+        let trace = ended_by(rt.alloc(), moved_trace(), 11, text)?;
+        let kept = breaks_at(rt.alloc(), moved(), trace.as_str(), first, new)?;
+        assert!(rt; kept, "{text}");
+    }
+    Ok(())
+}
