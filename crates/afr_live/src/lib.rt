@@ -1,7 +1,6 @@
 //! A volume run by threads: one for each actor, over a lock round the volume.
 #![tactic(auto)]
 
-mod held;
 mod rest;
 mod shared;
 mod tally;
