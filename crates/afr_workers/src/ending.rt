@@ -61,7 +61,8 @@ fn pass<F: Fn(&[Candidate]) -> usize, G: Fn(&[Candidate]) -> usize>(
     pass_healers(x, rules);
 }
 
-/// Pass after pass, until no task waits, or the log is full, or memory was wanting.
+/// Pass after pass, until one has added no line and no task waits, or the log is full, or memory was wanting. An actor that is
+/// held has no turn in them.
 fn drain<R: Wait, F: Fn(&[Candidate]) -> usize, G: Fn(&[Candidate]) -> usize>(
     rt: &R,
     x: &mut Workshop,
@@ -74,18 +75,29 @@ fn drain<R: Wait, F: Fn(&[Candidate]) -> usize, G: Fn(&[Candidate]) -> usize>(
     ensures over { (x.new.no_memory ≡ true) ⊎ ((length x.new.volume.log ≡ x.new.volume.plan.turns) ⊎ (queued_in x.new.tasks ≡ 0)) }
 {
     for _ in rt.forever() {
-        if is_drained(x) {
+        let before = x.volume.len();
+        pass(x, rules);
+        if is_drained(x, before) {
             return;
         }
-        pass(x, rules);
     }
     unreachable!()
 }
 
-fn is_drained(x: &Workshop) -> bool
+/// Whether nothing is left for such passes, after one before which the log was so long.
+fn is_drained(x: &Workshop, before: u32) -> bool
     ensures { result ≡ true → (x.now.no_memory ≡ true) ⊎ ((length x.now.volume.log ≡ x.now.volume.plan.turns) ⊎ (queued_in x.now.tasks ≡ 0)) }
 {
-    x.no_memory || is_full(&x.volume) || x.tasks.queued() == 0
+    if x.no_memory {
+        return true;
+    }
+    if is_full(&x.volume) {
+        return true;
+    }
+    if x.tasks.queued() > 0 {
+        return false;
+    }
+    x.volume.len() == before
 }
 
 /// Passes in which items are given that no thread has put, where no task waits.

@@ -9,3 +9,6 @@ pass-requires-clause-shop g c = c.loop.invariant.shop
 
 pub loop-preserved : goal.loop-preserved
 loop-preserved g c = kept_then c.args.x.now c.loop.x c.pass.new.x c.loop.invariant c.pass.ensures
+
+pub returns-then-is_drained-clause-kept : goal.returns-then-is_drained-clause-kept
+returns-then-is_drained-clause-kept g c = kept_then c.args.x.now c.loop.x c.pass.new.x c.loop.invariant c.pass.ensures
