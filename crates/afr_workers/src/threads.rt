@@ -1,5 +1,7 @@
 //! A crawl by threads: one for each client, one for the crawler, and one for each worker.
-ghost use Rattle.std.specs.Prelude.{◌≡◌, ◌<◌, IfOk, IfErr, OnOk, [], true};
+ghost use Rattle.std.specs.Prelude.{◌≡◌, ℕ, ◌<◌, IfOk, IfErr, OnOk, Some, [], slice_get, true};
+ghost use Rattle.afr_base.specs.declared.ids.ActorId.{ActorId};
+ghost use Rattle.afr_model.specs.Actors.{IsActor};
 ghost use Rattle.afr_rule.specs.Choosing.{IsRule};
 ghost use Rattle.afr_volume.specs.Right.{IsRightFor};
 ghost use Rattle.afr_workers.specs.Crew.{IsCrawled, IsTriedIn};
@@ -268,7 +270,36 @@ fn by_threads<
     let Ok(actors) = all_actors(alloc, clients) else {
         return Err((volume, NoMemory));
     };
-    let shop = opened(alloc, volume)?;
-    let shared: Shared<J> = run_crowd(rt, Shared::new(shop), actors.as_slice(), rules, gate);
+    match opened(alloc, volume) {
+        Ok(shop) => in_threads::<J, R, F, G, H>(rt, shop, actors.as_slice(), rules, gate),
+        Err((volume, stop)) => Err((volume, stop)),
+    }
+}
+
+/// A thread for each of these actors, and then what is left.
+fn in_threads<
+    J: Named + Send + Sync,
+    R: Threads + Wait + Sync,
+    F: Fn(&[Candidate]) -> usize + Sync,
+    G: Fn(&[Candidate]) -> usize + Sync,
+    H: Gate + Sync,
+>(
+    rt: &R,
+    shop: Workshop,
+    actors: &[ActorId],
+    rules: &Rules<F, G>,
+    gate: &H,
+) -> Result<Volume, (Volume, NoMemory)>
+    requires rule { IsRule F.Fn rules.now.heal }
+    requires read_rule { IsRule G.Fn rules.now.read }
+    requires name { shop.volume.plan ≡ J.plan }
+    requires shop { IsShop shop }
+    requires actors { (i : ℕ) (a : ActorId) → slice_get actors.now i ≡ Some a → IsActor J.plan a.0 }
+    ensures plan { (handed result).plan ≡ shop.volume.plan }
+    ensures crawls { (handed result).crawl ≡ true }
+    ensures complete { IfOk result (λ v. IsCrawled v) }
+    ensures tried { IfOk result (λ v. IsTriedIn v) }
+{
+    let shared: Shared<J> = run_crowd(rt, Shared::new(shop), actors, rules, gate);
     finish(rt, shared.into_shop(), rules)
 }

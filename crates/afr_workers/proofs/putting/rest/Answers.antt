@@ -1,3 +1,4 @@
+use Rattle.std.proofs.Common.{true}
 use Rattle.afr_workers.proofs.WorkshopLemmas.{shop_rested}
 use Rattle.afr_workers.proofs.putting.rest.Goals as goal
 

@@ -4,10 +4,10 @@ use Rattle.afr_workers.proofs.BeginningLemmas.{begun}
 use Rattle.afr_workers.proofs.threads.crawl_as.Goals as goal
 
 pub by_threads-requires-clause-name : goal.by_threads-requires-clause-name
-by_threads-requires-clause-name g c = c.take_client_orders-ordered.ensures.goes.plan ∙ c.requires.name
+by_threads-requires-clause-name g c = λ ks live. c.take_client_orders-ordered.ensures.goes.plan ∙ c.requires.name
 
 pub by_threads-requires-clause-begun : goal.by_threads-requires-clause-begun
-by_threads-requires-clause-begun g c =
+by_threads-requires-clause-begun g c = λ ks live.
     begun c.args.volume c.take_client_orders-ordered.new.volume (c.every_line.ensures.resting c.requires.fresh) c.requires.crawls c.requires.fresh (c.every_line.ensures.crawls c.requires.crawls) c.take_client_orders-ordered.ensures.runs
 
 pub returns-in-Ok-clause-plan : goal.returns-in-Ok-clause-plan
