@@ -1,8 +1,7 @@
 -- Before the first turn of a thread nothing was put, taken or given.
-use Rattle.std.proofs.Common.{◌≡◌, ◌∙◌, ◌⊎◌, ℕ, zero, suc, ◌++◌, ◌≤◌, nat_lt, Bool, true, false, List, [], ◌∷◌, Option, None, Some, inl, inr, refl, sym, ap, arith, subst, length, slice_get}
+use Rattle.std.proofs.Common.{◌≡◌, ◌∙◌, ℕ, zero, suc, ◌++◌, nat_lt, Bool, true, false, List, [], ◌∷◌, None, Some, inl, inr, refl, sym, ap, arith, subst, length, slice_get}
 use Rattle.std.proofs.lemmas.Bool.Decides.{nat_tests}
 use Rattle.afr_base.specs.declared.ids.ActorId.{ActorId}
-use Rattle.afr_lines.specs.Work.{is_killed}
 use Rattle.afr_model.specs.Actors.{Client, Healer, IsActor}
 use Rattle.afr_model.specs.Crawl.{CanCrawl, IsWorker, lists_by}
 use Rattle.afr_plan.specs.declared.plan.Plan.{Plan}

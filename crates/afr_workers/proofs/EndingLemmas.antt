@@ -1,5 +1,5 @@
 -- Where nothing waits to be taken, what the workers were given are the items that were put.
-use Rattle.std.proofs.Common.{◌≡◌, ◌⊎◌, ℕ, zero, suc, ◌+◌, ◌<◌, ◌++◌, Bool, true, false, List, [], ◌∷◌, inl, inr, refl, sym, ap, ◌∙◌, arith, length, map, replicate}
+use Rattle.std.proofs.Common.{◌≡◌, ◌⊎◌, ℕ, zero, suc, ◌+◌, ◌<◌, Bool, true, false, List, [], ◌∷◌, inl, inr, refl, sym, ap, ◌∙◌, arith, length, map, replicate}
 use Rattle.afr_lines.specs.Work.{is_killed}
 use Rattle.afr_model.specs.Crawl.{lists_by}
 use Rattle.afr_tasks.proofs.Balances.{weigh_append}

@@ -1,12 +1,10 @@
 -- An item that was put stands in a list that the crawler was given.
-use Rattle.std.proofs.Common.{◌≡◌, ◌∙◌, ℕ, zero, suc, ◌+◌, ◌<◌, ◌==◌, ◌++◌, nat_lt, Bool, true, false, List, [], ◌∷◌, Option, None, Some, if◌then◌else◌, refl, sym, ap, subst, ⊎_elim, arith, drop, get_or, length, map, replicate, take}
+use Rattle.std.proofs.Common.{◌≡◌, ◌∙◌, ℕ, zero, suc, ◌<◌, ◌==◌, ◌++◌, nat_lt, Bool, true, false, List, [], ◌∷◌, Option, None, Some, if◌then◌else◌, refl, ap, subst, ⊎_elim, arith, drop, get_or, length, map, replicate, take}
 use Rattle.std.specs.Prelude.{Contains}
 use Rattle.std.proofs.lemmas.Bool.Decides.{nat_tests}
 use Rattle.std.proofs.lemmas.List.{take-append-drop}
 use Rattle.std.proofs.lemmas.List.Elements.{Contains-append_cases, Contains-append_left}
 use Rattle.std.proofs.lemmas.Option.{slice_get-get_or}
-use Rattle.afr_base.specs.declared.ids.Gfid.{Gfid}
-use Rattle.afr_base.specs.declared.ids.What.{What}
 use Rattle.afr_lines.specs.declared.line.Line.{Line}
 use Rattle.afr_model.specs.Crawl.{IsGiven, list_at, lists_by}
 use Rattle.afr_plan.specs.declared.plan.Plan.{Plan}

@@ -1,15 +1,15 @@
 -- What each step under the lock leaves of what was put, taken and given.
-use Rattle.std.proofs.Common.{◌≡◌, ◌≢◌, ◌∙◌, ◌⊎◌, ℕ, zero, suc, ◌+◌, ◌-◌, ◌<◌, ◌≤◌, ◌==◌, ◌||◌, ◌&&◌, ◌++◌, not, nat_le, nat_lt, Bool, true, false, List, [], ◌∷◌, Option, None, Some, if◌then◌else◌, inl, inr, refl, sym, ap, append_assoc, arith, subst, length, map, replicate, slice_get}
+use Rattle.std.proofs.Common.{◌≡◌, ◌≢◌, ◌∙◌, ◌⊎◌, ℕ, zero, suc, ◌+◌, ◌<◌, ◌≤◌, ◌==◌, ◌||◌, ◌&&◌, ◌++◌, not, nat_le, nat_lt, Bool, true, false, List, [], ◌∷◌, Option, None, Some, if◌then◌else◌, inl, inr, refl, sym, ap, append_assoc, arith, subst, length, map, replicate, slice_get}
 use Rattle.std.proofs.lemmas.Bool.Decides.{eqb_tells, nat_tests}
 use Rattle.std.proofs.lemmas.List.{append-nil}
 use Rattle.afr_base.specs.declared.ids.ActorId.{ActorId}
 use Rattle.afr_crowd.specs.declared.held.Held.{Held}
-use Rattle.afr_lines.specs.Work.{ended, events_made, is_killed, is_of, kills, work}
+use Rattle.afr_lines.specs.Work.{ended, events_made, is_killed, is_of, kills}
 use Rattle.afr_lines.specs.declared.line.Event.{Event as OfEvent}
 use Rattle.afr_lines.specs.declared.line.Line.{Line}
 use Rattle.afr_lines.specs.declared.line.Line.TheVariants.{Ask, Begin, End, Event, HealBegin, HealEnd}
 use Rattle.afr_model.specs.Actors.{works_of}
-use Rattle.afr_model.specs.Crawl.{IsWorker, given_by, lists_by, tasks_by}
+use Rattle.afr_model.specs.Crawl.{IsWorker, lists_by}
 use Rattle.afr_plan.specs.declared.plan.Plan.{Plan}
 use Rattle.afr_tasks.specs.Exchange.{Exchange, with_taken}
 use Rattle.afr_tasks.specs.declared.rule.Task.{Task}

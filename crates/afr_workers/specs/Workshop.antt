@@ -2,7 +2,7 @@
 use Rattle.std.specs.Prelude.{◌≡◌, ◌⊎◌, ℕ, ◌-◌, ◌<◌, ◌≤◌, Bool, true, List, [], ◌∷◌, ◌++◌, None, Some, length, map, replicate, slice_get, slice_set}
 use Rattle.afr_base.specs.declared.ids.ActorId.{ActorId}
 use Rattle.afr_lines.specs.Work.{is_killed}
-use Rattle.afr_model.specs.Crawl.{IsWorker, lists_by}
+use Rattle.afr_model.specs.Crawl.{lists_by}
 use Rattle.afr_tasks.specs.Exchange.{Exchange, with_taken}
 use Rattle.afr_tasks.specs.declared.rule.Task.{Task}
 use Rattle.afr_tasks.specs.declared.rule.Task.TheVariants.{Heal, Stop}

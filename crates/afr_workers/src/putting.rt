@@ -19,10 +19,8 @@ use afr_volume::Volume;
 /// Puts this item, where the queue takes it.
 fn put_item(tasks: &mut Tasks, crew: &mut Crew, next: Next) -> bool
     requires { next.at + 1 < 2 ^ 64 }
-    ensures {
-        ((tasks.new ≡ record tasks.old { put = tasks.old.put ++ heal_of (next.gfid, next.what) ∷ [] }) × (crew.new ≡ record crew.old { round = next.round; at = next.at + 1 }))
-        ⊎ ((tasks.new ≡ tasks.old) × (crew.new ≡ crew.old))
-    }
+    ensures { ((tasks.new ≡ record tasks.old { put = tasks.old.put ++ heal_of (next.gfid, next.what) ∷ [] }) × (crew.new ≡ record crew.old { round = next.round; at = next.at + 1 }))
+        ⊎ ((tasks.new ≡ tasks.old) × (crew.new ≡ crew.old)) }
 {
     if !tasks.put(Task::Heal(next.gfid, next.what)) {
         return false;
@@ -63,10 +61,8 @@ fn put_all(x: &mut Workshop)
 /// Puts a stop, where the queue takes it.
 fn put_one_stop(tasks: &mut Tasks, stops: &mut u8)
     requires { stops.old < 2 }
-    ensures {
-        ((tasks.new ≡ record tasks.old { put = tasks.old.put ++ Task.Stop ∷ [] }) × (stops.new ≡ stops.old + 1))
-        ⊎ ((tasks.new ≡ tasks.old) × (stops.new ≡ stops.old))
-    }
+    ensures { ((tasks.new ≡ record tasks.old { put = tasks.old.put ++ Task.Stop ∷ [] }) × (stops.new ≡ stops.old + 1))
+        ⊎ ((tasks.new ≡ tasks.old) × (stops.new ≡ stops.old)) }
 {
     if tasks.put(Task::Stop) {
         *stops += 1;

@@ -1,4 +1,4 @@
-use Rattle.std.proofs.Common.{◌∙◌, inl, inr, sym}
+use Rattle.std.proofs.Common.{◌∙◌, inl, sym}
 use Rattle.afr_workers.proofs.taking.can_go_on.Goals as goal
 
 pub is_done-requires : goal.is_done-requires

@@ -1,5 +1,5 @@
 -- Why an item is passed over; else it is the worker's.
-use Rattle.std.proofs.Common.{◌≡◌, ◌⊎◌, ◌∙◌, false, true, inl, inr, refl, sym, arith, length}
+use Rattle.std.proofs.Common.{◌≡◌, ◌∙◌, false, true, inl, inr, refl, sym, arith}
 use Rattle.afr_lines.specs.Work.{is_killed}
 use Rattle.afr_volume.specs.Tasks.{is_done_in}
 use Rattle.afr_workers.proofs.CrewLemmas.{idle_of}

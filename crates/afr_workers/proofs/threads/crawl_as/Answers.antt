@@ -1,5 +1,5 @@
 -- The orders of the clients give the workers nothing.
-use Rattle.std.proofs.Common.{◌∙◌, sym}
+use Rattle.std.proofs.Common.{◌∙◌}
 use Rattle.afr_workers.proofs.BeginningLemmas.{begun}
 use Rattle.afr_workers.proofs.threads.crawl_as.Goals as goal
 

@@ -1,5 +1,5 @@
 -- A turn keeps the three facts and the plan.
-use Rattle.std.proofs.Common.{◌∙◌, sym}
+use Rattle.std.proofs.Common.{◌∙◌}
 use Rattle.afr_workers.proofs.threads.SharedCrowd.step.Goals as goal
 
 pub steps-requires-clause-actor : goal.steps-requires-clause-actor
