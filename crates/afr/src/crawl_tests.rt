@@ -1,8 +1,12 @@
 //! Tests of a crawl.
-use crate::live_tests::live_run;
+use crate::live_tests::{Meeting, live_run};
 use crate::tests::PLAN;
+use afr_base::ActorId;
 use afr_live::NoGate;
 use std::test::Fail;
+
+/// The turn at which two workers meet.
+const MEETING: u64 = 10;
 
 /// A brick is away while two files are written; then the crawler finds both, and the workers heal them.
 const TWO_FILES: &str =
@@ -26,6 +30,16 @@ fn what_is_crawled_is_healed(rt: HostRuntime) -> Result<(), Fail> {
     let (status, sink) = live_run(&rt, "crawl", TWO_FILES, &NoGate)?;
     assert_eq!(rt; status, 0);
     assert_eq!(rt; sink.taken(), TWO_FILES_REPORT.as_bytes());
+    Ok(())
+}
+
+#[test]
+fn two_workers_heal_in_two_threads(rt: HostRuntime) -> Result<(), Fail> {
+    let gate = Meeting::new(&rt, ActorId(18), ActorId(19), MEETING);
+    let (status, sink) = live_run(&rt, "crawl", TWO_FILES, &gate)?;
+    assert_eq!(rt; status, 0);
+    assert_eq!(rt; sink.taken(), TWO_FILES_REPORT.as_bytes());
+    assert!(rt; gate.have_met());
     Ok(())
 }
 

@@ -27,7 +27,7 @@ pub(crate) const TREE: &str =
 /// The turn at which two clients meet.
 const MEETING: u64 = 15;
 
-/// How often a client looks for the other at most.
+/// How often an actor looks for the other at most.
 const MOST_LOOKS: u32 = 10_000_000;
 
 /// Who has come to the meeting.
@@ -35,23 +35,41 @@ const MOST_LOOKS: u32 = 10_000_000;
 struct Come {
     first: bool,
     second: bool,
-    /// A client didn't meet the other, however often it looked.
+    /// One of the two didn't meet the other, however often it looked.
     missed: bool,
 }
 
-/// A gate that holds two clients at one of their turns, each until the other has come to its own. A run on one thread
-/// doesn't pass it, in whatever order it takes the clients.
+/// A gate that holds two actors at one of their turns, each until the other has come to its own. A run on one thread
+/// doesn't pass it, in whatever order it takes the actors.
 #[derive(Drop)]
-struct Meeting<'a, R: Wait> {
+pub(crate) struct Meeting<'a, R: Wait> {
     rt: &'a R,
+    first: ActorId,
+    second: ActorId,
+    turn: u64,
     come: Mutex<Come>,
 }
 
-impl<R: Wait> Meeting<'_, R> {
-    /// Notes that a client has come.
+impl<'a, R: Wait> Meeting<'a, R> {
+    pub(crate) fn new(rt: &'a R, first: ActorId, second: ActorId, turn: u64) -> Meeting<'a, R> {
+        let nobody = Come {
+            first: false,
+            second: false,
+            missed: false,
+        };
+        Meeting {
+            rt,
+            first,
+            second,
+            turn,
+            come: Mutex::new(nobody),
+        }
+    }
+
+    /// Notes that one of the two has come.
     fn note(&self, a: ActorId) {
         let mut come = self.come.lock(self.rt);
-        if a == ActorId(1) {
+        if a == self.first {
             come.first = true;
         } else {
             come.second = true;
@@ -62,11 +80,17 @@ impl<R: Wait> Meeting<'_, R> {
         let come = *self.come.lock(self.rt);
         come.first && come.second
     }
+
+    /// Whether both came, and neither looked in vain for the other.
+    pub(crate) fn have_met(&self) -> bool {
+        let come = *self.come.lock(self.rt);
+        come.first && come.second && !come.missed
+    }
 }
 
 impl<R: Wait> Gate for Meeting<'_, R> {
     fn pass(&self, a: ActorId, turn: u64) {
-        if turn != MEETING {
+        if turn != self.turn || (a != self.first && a != self.second) {
             return;
         }
         self.note(a);
@@ -112,20 +136,11 @@ pub(crate) fn live_run<R: Threads + Wait + Alloc<A = Global> + Sync, H: Gate + S
 
 #[test]
 fn two_clients_run_in_two_threads(rt: HostRuntime) -> Result<(), Fail> {
-    let nobody = Come {
-        first: false,
-        second: false,
-        missed: false,
-    };
-    let gate = Meeting {
-        rt: &rt,
-        come: Mutex::new(nobody),
-    };
+    let gate = Meeting::new(&rt, ActorId(1), ActorId(2), MEETING);
     let (status, sink) = live_run(&rt, "live", APART, &gate)?;
     assert_eq!(rt; status, 0);
     assert_eq!(rt; sink.taken(), APART_REPORT.as_bytes());
-    assert!(rt; gate.have_both_come());
-    assert!(rt; !gate.come.lock(&rt).missed);
+    assert!(rt; gate.have_met());
     Ok(())
 }
 

@@ -18,24 +18,36 @@ use crate::messages::{CRAWL_REFUSED, answer};
 use crate::recording::text_live;
 use crate::status::Status;
 use afr_base::NoMemory;
+use afr_live::Gate;
 use afr_plan::Plan;
 use afr_report::is_untried;
 use afr_rule::{Candidate, Rules};
 use afr_text::Sink;
 use afr_volume::Volume;
 use afr_words::LiveForm;
-use afr_workers::crawl_here;
+use afr_workers::crawl;
 use std::alloc::Global;
+use std::mem;
+use std::sync::Wait;
+use std::thread::Threads;
 
 /// Crawls a plan and writes its report, also where the log got full in the middle of the work. A plan without three healers, or
 /// with a round of the second or the third, is refused.
-pub fn crawl_plan<K: Sink, F: Fn(&[Candidate]) -> usize, G: Fn(&[Candidate]) -> usize>(
+pub fn crawl_plan<
+    R: Threads + Wait + Sync,
+    K: Sink,
+    F: Fn(&[Candidate]) -> usize + Sync,
+    G: Fn(&[Candidate]) -> usize + Sync,
+    H: Gate + Sync,
+>(
+    rt: &R,
     alloc: Global,
     form: LiveForm,
     plan: Plan,
     sink: &mut K,
     volume: &mut Volume,
     rules: &Rules<F, G>,
+    gate: &H,
 ) -> u8
     requires rule { IsRule F.Fn rules.now.heal }
     requires read_rule { IsRule G.Fn rules.now.read }
@@ -53,7 +65,7 @@ pub fn crawl_plan<K: Sink, F: Fn(&[Candidate]) -> usize, G: Fn(&[Candidate]) -> 
     ensures memory { result ≡ 6 → sink.new ≡ sink.old }
 {
     if can_crawl(&plan) {
-        crawl_allowed(alloc, form, plan, sink, volume, rules)
+        crawl_allowed(rt, alloc, form, plan, sink, volume, rules, gate)
     } else {
         answer(sink, CRAWL_REFUSED, Status::CrawlRefused as u8)
     }
@@ -79,13 +91,21 @@ fn has_no_rounds(plan: &Plan, at: usize) -> bool
 }
 
 /// Crawls a plan that can be crawled, and writes its report.
-fn crawl_allowed<K: Sink, F: Fn(&[Candidate]) -> usize, G: Fn(&[Candidate]) -> usize>(
+fn crawl_allowed<
+    R: Threads + Wait + Sync,
+    K: Sink,
+    F: Fn(&[Candidate]) -> usize + Sync,
+    G: Fn(&[Candidate]) -> usize + Sync,
+    H: Gate + Sync,
+>(
+    rt: &R,
     alloc: Global,
     form: LiveForm,
     plan: Plan,
     sink: &mut K,
     volume: &mut Volume,
     rules: &Rules<F, G>,
+    gate: &H,
 ) -> u8
     requires rule { IsRule F.Fn rules.now.heal }
     requires read_rule { IsRule G.Fn rules.now.read }
@@ -105,7 +125,7 @@ fn crawl_allowed<K: Sink, F: Fn(&[Candidate]) -> usize, G: Fn(&[Candidate]) -> u
     if set_to_crawl(volume, plan).is_err() {
         return Status::NoMemory as u8;
     }
-    if crawled_volume(volume, rules).is_err() {
+    if crawled_volume(rt, alloc, volume, rules, gate).is_err() {
         return Status::NoMemory as u8;
     }
     volume.every_line();
@@ -124,11 +144,13 @@ fn set_to_crawl(volume: &mut Volume, plan: Plan) -> Result<(), NoMemory>
     Ok(())
 }
 
-/// Crawls the volume to its end: on this thread alone.
-fn crawled_volume<F: Fn(&[Candidate]) -> usize, G: Fn(&[Candidate]) -> usize>(
-    volume: &mut Volume,
-    rules: &Rules<F, G>,
-) -> Result<(), NoMemory>
+/// Lends the volume to the threads of a crawl, and puts the one that they hand back in its place.
+fn crawled_volume<
+    R: Threads + Wait + Sync,
+    F: Fn(&[Candidate]) -> usize + Sync,
+    G: Fn(&[Candidate]) -> usize + Sync,
+    H: Gate + Sync,
+>(rt: &R, alloc: Global, volume: &mut Volume, rules: &Rules<F, G>, gate: &H) -> Result<(), NoMemory>
     requires rule { IsRule F.Fn rules.now.heal }
     requires read_rule { IsRule G.Fn rules.now.read }
     requires crawls { volume.old.crawl ≡ true }
@@ -138,7 +160,17 @@ fn crawled_volume<F: Fn(&[Candidate]) -> usize, G: Fn(&[Candidate]) -> usize>(
     ensures complete { OnOk result (IsCrawled volume.new) }
     ensures tried { OnOk result (IsTriedIn volume.new) }
 {
-    crawl_here(volume, rules)
+    let lent = mem::replace(volume, Volume::empty(alloc));
+    match crawl(rt, alloc, lent, rules, gate) {
+        Ok(crawled) => {
+            *volume = crawled;
+            Ok(())
+        }
+        Err((stopped, stop)) => {
+            *volume = stopped;
+            Err(stop)
+        }
+    }
 }
 
 /// Writes the report of a crawl that is over, and answers how it ended.

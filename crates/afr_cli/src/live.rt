@@ -204,7 +204,7 @@ fn run_asked<
     ensures eager { volume.new.crawl ≡ false → AreEager volume.new.log }
 {
     if crawls(form) {
-        crawl_plan(alloc, form, plan, sink, volume, rules)
+        crawl_plan(rt, alloc, form, plan, sink, volume, rules, gate)
     } else {
         run_live(rt, alloc, form, plan, sink, volume, rules, gate)
     }

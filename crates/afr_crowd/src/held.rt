@@ -51,6 +51,11 @@ impl Held {
         }
     }
 
+    /// Whether a line that told of something else came after so many lines.
+    pub fn has_moved(&self, before: u32) -> bool {
+        self.moved > before
+    }
+
     /// Whether the actor was told so, and since then came no other line than such ones.
     pub fn has(&self, a: ActorId) -> bool
         ensures { a.0 < 20 → result ≡ nat_lt self.now.moved (slice_index_or self.now.told a.0 0) }

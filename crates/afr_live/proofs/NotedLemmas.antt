@@ -4,6 +4,7 @@ use Rattle.std.specs.Prelude.{is_some, nat_lt}
 use Rattle.std.proofs.lemmas.Bool.{cases_eq, cases_lt, eqb-true}
 use Rattle.std.proofs.lemmas.Bool.Decides.{nat_tests}
 use Rattle.afr_base.specs.declared.ids.ActorId.{ActorId}
+use Rattle.afr_crowd.specs.declared.held.Held.{Held}
 use Rattle.afr_law_bound.specs.Ends.Cost.{is_held_back}
 use Rattle.afr_law_bound.specs.Ends.Law.{AreEager, is_back}
 use Rattle.afr_lines.specs.Work.{is_of}
@@ -12,7 +13,6 @@ use Rattle.afr_lines.specs.declared.line.Line.TheVariants.{Ask, Begin, End, Even
 use Rattle.afr_lines.specs.declared.line.Line.{Line}
 use Rattle.afr_lines.specs.declared.request.Request.TheVariants.{Lock}
 use Rattle.afr_live.specs.Noted.{AreNoted, MayTakeTurn, noted_after, told_at}
-use Rattle.afr_live.specs.declared.held.Held.{Held}
 use Rattle.afr_log.specs.Log.{waits_for}
 use Rattle.afr_model.specs.Actors.{IsActor}
 use Rattle.afr_model.specs.Actors.IsActor.{Client, Healer}

@@ -3,9 +3,9 @@ use Rattle.std.specs.Prelude.{◌≡◌, ◌⊎◌, ℕ, ◌<◌, ◌≤◌, nat
 use Rattle.std.specs.Coded.{×_prop, Unit-prop}
 use Rattle.std.proofs.Props.{props}
 use Rattle.afr_base.specs.declared.ids.ActorId.{ActorId}
+use Rattle.afr_crowd.specs.declared.held.Held.{Held}
 use Rattle.afr_law_bound.specs.Ends.Law.{AreEager, is_back}
 use Rattle.afr_lines.specs.declared.line.Line.{Line}
-use Rattle.afr_live.specs.declared.held.Held.{Held}
 use Rattle.afr_model.specs.Actors.{is_done}
 use Rattle.afr_plan.specs.declared.plan.Plan.{Plan}
 use Rattle.afr_volume.specs.State.{State}

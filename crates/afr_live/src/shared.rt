@@ -2,7 +2,7 @@
 ghost use Rattle.std.specs.Prelude.{◌≡◌, ◌⊎◌, ◌<◌, ◌≤◌, ◌+◌, ℕ, true, false, None, OnOk, IfOk, List, [], ◌∷◌, length};
 ghost use Rattle.afr_law_bound.specs.Ends.Law.{AreEager, is_back};
 ghost use Rattle.afr_live.specs.Ends.{works_ended};
-ghost use Rattle.afr_live.specs.Noted.{AreEager-prop, AreNoted, MayTakeTurn};
+ghost use Rattle.afr_live.specs.Noted.{AreEager-prop, AreNoted, MayTakeTurn, noted_after};
 ghost use Rattle.afr_live.specs.Turns.{TakesTurn};
 ghost use Rattle.afr_lines.specs.Work.{is_end};
 ghost use Rattle.afr_lines.specs.declared.line.Line.{Line};
@@ -13,9 +13,9 @@ ghost use Rattle.afr_rule.specs.Choosing.{IsRule};
 ghost use Rattle.afr_volume.specs.State.{State};
 ghost use Rattle.afr_volume.specs.Turning.{Turns, due_of};
 
-use crate::held::Held;
 use crate::tally::{EndedWorks, Handed, Run};
 use afr_base::{ActorId, NoMemory};
+use afr_crowd::Held;
 use afr_lines::Line;
 use afr_rule::{Candidate, Rules};
 use afr_volume::{Turned, Volume, come_due};
@@ -106,7 +106,7 @@ impl<J: Run> Shared<J> {
         } = self;
         let turned = volume.turn(a, rules)?;
         volume.every_line();
-        held.note(a, turned, volume.len());
+        note(held, a, turned, volume.len());
         count(volume, a, turned, ended, mine);
         Ok(turned)
     }
@@ -204,6 +204,18 @@ impl<J: Run> Shared<J> {
         ensures { result ≡ true → self.now.volume.plan.turns ≤ length self.now.volume.log }
     {
         self.volume.len() >= self.volume.plan().turns
+    }
+}
+
+/// Notes the line of an actor's turn, which left the log so long.
+fn note(held: &mut Held, a: ActorId, turned: Turned, len: u32)
+    requires { a.0 < 20 }
+    ensures { held.new ≡ noted_after held.old a turned len }
+{
+    match turned {
+        Turned::Moved => held.note_moved(len),
+        Turned::Waits(_) => held.note_held(a, len),
+        Turned::Ended | Turned::Full => {}
     }
 }
 

@@ -9,11 +9,11 @@ ghost use Rattle.afr_model.specs.Complete.{IsComplete};
 ghost use Rattle.afr_rule.specs.Choosing.{IsRule};
 ghost use Rattle.afr_volume.specs.Right.{IsRight};
 
-use crate::gate::Gate;
 use crate::rest::take_rest;
 use crate::shared::{After, Shared};
 use crate::tally::{EndedWorks, Handed, Run};
 use afr_base::{ActorId, FIRST_CLIENT, FIRST_HEALER, NoMemory};
+use afr_crowd::Gate;
 use afr_law_bound::an_ordered_run_ends;
 use afr_rule::{Candidate, Rules};
 use afr_volume::Volume;

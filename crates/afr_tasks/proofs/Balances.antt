@@ -5,7 +5,7 @@ use Rattle.std.proofs.Math.Option.{some-injective}
 use lib.ListN.{get_elem?}
 use Rattle.crossbeam_queue.specs.Fifo.{Pushes, Pops, Forks, Merges, Learns}
 use Rattle.crossbeam_queue.proofs.Lists.{at_set, at_snoc}
-use Rattle.afr_tasks.specs.Balance.{Balanced, IdleIsEmpty, IsEmptyIfIdle, hand, total, weigh}
+use Rattle.afr_tasks.specs.Balance.{AllHaveRights, Balanced, HasRights, hand, total, weigh}
 use Rattle.afr_tasks.specs.declared.rule.Hand.{Hand}
 use Rattle.afr_tasks.specs.declared.rule.Task.{Task}
 
@@ -24,40 +24,41 @@ total_snoc : (f : Hand → ℕ) (views : List Hand) (v : Hand) → total f (view
 total_snoc f [] v = omega arith
 total_snoc f (x ∷ xs) v = omega (arith, total_snoc f xs v)
 
-idle_set : (views : List Hand) (port : ℕ) (w : Hand) → IsEmptyIfIdle w → IdleIsEmpty views → IdleIsEmpty (set views port w)
-idle_set views port w mine old j u e = ⊎_elim (λ (x : (j ≡ port) × (w ≡ u)). subst IsEmptyIfIdle x.1 mine) (λ (x : (j ≢ port) × (get_elem? views j ≡ some u)). old j u x.1) (at_set views port j w u e)
+rights_set : (views : List Hand) (port : ℕ) (w : Hand) → HasRights w → AllHaveRights views → AllHaveRights (set views port w)
+rights_set views port w mine old j u e = ⊎_elim (λ (x : (j ≡ port) × (w ≡ u)). subst HasRights x.1 mine) (λ (x : (j ≢ port) × (get_elem? views j ≡ some u)). old j u x.1) (at_set views port j w u e)
 
-idle_snoc : (views : List Hand) (w : Hand) → IsEmptyIfIdle w → IdleIsEmpty views → IdleIsEmpty (views ++ w ∷ [])
-idle_snoc views w mine old j u e = ⊎_elim (λ (x : get_elem? views j ≡ some u). old j u x) (λ (is : w ≡ u). subst IsEmptyIfIdle is mine) (at_snoc views w u j e)
+rights_snoc : (views : List Hand) (w : Hand) → HasRights w → AllHaveRights views → AllHaveRights (views ++ w ∷ [])
+rights_snoc views w mine old j u e = ⊎_elim (λ (x : get_elem? views j ≡ some u). old j u x) (λ (is : w ≡ u). subst HasRights is mine) (at_snoc views w u j e)
 
--- ---- who has all parts knows the whole
+-- ---- who has many parts knows what those with few have not
 abbrev parts : Hand → ℕ
 parts v = v.parts
 
-within : (views : List Hand) (port : ℕ) (v : Hand) → get_elem? views port ≡ some v → v.parts ≤ total parts views
-within [] port v e = absurd (some-ne-none v (sym e))
-within (x ∷ xs) zero v e = omega (arith, ap parts (some-injective _ _ e))
-within (x ∷ xs) (suc n) v e = omega (arith, within xs n v e)
+-- one pass has no more than all of them
+within : (f : Hand → ℕ) (views : List Hand) (port : ℕ) (v : Hand) → get_elem? views port ≡ some v → f v ≤ total f views
+within f [] port v e = absurd (some-ne-none v (sym e))
+within f (x ∷ xs) zero v e = omega (arith, ap f (some-injective _ _ e))
+within f (x ∷ xs) (suc n) v e = omega (arith, within f xs n v e)
 
--- f is 0 of each pass that has no part
-abbrev IsIdle : (Hand → ℕ) → List Hand → Type 0
-IsIdle f views = (port : ℕ) (v : Hand) → get_elem? views port ≡ some v → v.parts ≡ 0 → f v ≡ 0
+-- f is 0 of each pass with fewer parts than these
+abbrev IsNoneBelow : ℕ → (Hand → ℕ) → List Hand → Type 0
+IsNoneBelow least f views = (port : ℕ) (v : Hand) → get_elem? views port ≡ some v → v.parts < least → f v ≡ 0
 
-none_left : (f : Hand → ℕ) (views : List Hand) → IsIdle f views → total parts views ≡ 0 → total f views ≡ 0
-none_left f [] idle e = refl
-none_left f (x ∷ xs) idle e =
-    let here : f x ≡ 0 = idle 0 x refl (omega (arith, e)) in
-    omega (arith, here, none_left f xs (λ n v at. idle (suc n) v at) (omega (arith, e)))
+none_left : (least : ℕ) (f : Hand → ℕ) (views : List Hand) → IsNoneBelow least f views → total parts views < least → total f views ≡ 0
+none_left least f [] none few = refl
+none_left least f (x ∷ xs) none few =
+    let here : f x ≡ 0 = none 0 x refl (omega (arith, few)) in
+    omega (arith, here, none_left least f xs (λ n v at. none (suc n) v at) (omega (arith, few)))
 
-alone : (f : Hand → ℕ) (views : List Hand) (port : ℕ) (v : Hand) → IsIdle f views → get_elem? views port ≡ some v → total parts views ≡ v.parts → total f views ≡ f v
-alone f [] port v idle e all = absurd (some-ne-none v (sym e))
-alone f (x ∷ xs) zero v idle e all =
+alone : (least : ℕ) (f : Hand → ℕ) (views : List Hand) (port : ℕ) (v : Hand) → IsNoneBelow least f views → get_elem? views port ≡ some v → total parts views < v.parts + least → total f views ≡ f v
+alone least f [] port v none e few = absurd (some-ne-none v (sym e))
+alone least f (x ∷ xs) zero v none e few =
     let is : x ≡ v = some-injective _ _ e in
-    omega (arith, ap f is, none_left f xs (λ n u at. idle (suc n) u at) (omega (arith, all, ap parts is)))
-alone f (x ∷ xs) (suc n) v idle e all =
-    let few : v.parts ≤ total parts xs = within xs n v e in
-    let here : f x ≡ 0 = idle 0 x refl (omega (arith, few, all)) in
-    omega (arith, here, alone f xs n v (λ k u at. idle (suc k) u at) e (omega (arith, few, all)))
+    omega (arith, ap f is, none_left least f xs (λ n u at. none (suc n) u at) (omega (arith, few, ap parts is)))
+alone least f (x ∷ xs) (suc n) v none e few =
+    let most : v.parts ≤ total parts xs = within parts xs n v e in
+    let here : f x ≡ 0 = none 0 x refl (omega (arith, most, few)) in
+    omega (arith, here, alone least f xs n v (λ k u at. none (suc k) u at) e (omega (arith, few)))
 
 -- ---- the moves
 abbrev put_of : (Task → ℕ) → Hand → ℕ
@@ -66,21 +67,21 @@ put_of h v = weigh h v.put
 abbrev taken_of : (Task → ℕ) → Hand → ℕ
 taken_of h v = weigh h v.taken
 
-pub begins : Balanced [] (hand 3 [] [] ∷ [])
-begins = (refl, (λ h. refl), λ port v at none. first port v at none)
+pub begins : Balanced [] (hand 5 [] [] ∷ [])
+begins = (refl, (λ h. refl), first)
   where
-    first : (port : ℕ) (v : Hand) → get_elem? (hand 3 [] [] ∷ []) port ≡ some v → IsEmptyIfIdle v
-    first zero v at none = absurd (omega (arith, ap parts (some-injective _ _ at), none))
-    first (suc n) v at none = absurd (some-ne-none v (sym at))
+    first : (port : ℕ) (v : Hand) → get_elem? (hand 5 [] [] ∷ []) port ≡ some v → HasRights v
+    first zero v at = subst HasRights (some-injective _ _ at) ((λ none. refl), λ few. refl)
+    first (suc n) v at = absurd (some-ne-none v (sym at))
 
-pub puts : (n port : ℕ) (v : Hand) (x : Task) → 0 < v.parts → Pushes Balanced n port v x (λ w. w ≡ hand v.parts (v.put ++ x ∷ []) v.taken)
-puts n port v x some_part items views room b at =
+pub puts : (n port : ℕ) (v : Hand) (x : Task) → 2 < v.parts → Pushes Balanced n port v x (λ w. w ≡ hand v.parts (v.put ++ x ∷ []) v.taken)
+puts n port v x many items views room b at =
     let w : Hand = hand v.parts (v.put ++ x ∷ []) v.taken in (
       w,
       (
         omega (arith, total_set parts views port v w at, b.0),
         (λ h. omega (arith, total_set (put_of h) views port v w at, total_set (taken_of h) views port v w at, b.1 h, weigh_append h v.put (x ∷ []), weigh_append h items (x ∷ []))),
-        idle_set views port w (λ none. absurd (omega (arith, none, some_part))) b.2,
+        rights_set views port w ((λ none. absurd (omega (arith, none, many))), λ few. absurd (omega (arith, few, many))) b.2,
       ),
       refl,
     )
@@ -92,23 +93,32 @@ takes port v some_part x items views b at =
       (
         omega (arith, total_set parts views port v w at, b.0),
         (λ h. omega (arith, total_set (put_of h) views port v w at, total_set (taken_of h) views port v w at, b.1 h, weigh_append h v.taken (x ∷ []))),
-        idle_set views port w (λ none. absurd (omega (arith, none, some_part))) b.2,
+        rights_set views port w ((λ none. absurd (omega (arith, none, some_part))), (b.2 port v at).1) b.2,
       ),
       refl,
     )
 
-pub forks : (port : ℕ) (v : Hand) → 1 < v.parts → Forks Balanced port v (hand (v.parts - 1) v.put v.taken) (hand 1 [] [])
-forks port v two items views b at =
-    let w : Hand = hand (v.parts - 1) v.put v.taken in
+pub cuts : (port : ℕ) (v : Hand) → 3 < v.parts → Forks Balanced port v (hand (v.parts - 1) v.put []) (hand 1 [] v.taken)
+cuts port v many items views b at =
+    let w : Hand = hand (v.parts - 1) v.put [] in
     let vs : List Hand = set views port w in
-    let r : Hand = hand 1 [] [] in (
-      omega (arith, total_snoc parts vs r, total_set parts views port v w at, b.0, two),
+    let r : Hand = hand 1 [] v.taken in (
+      omega (arith, total_snoc parts vs r, total_set parts views port v w at, b.0, many),
       (λ h. omega (arith, total_snoc (put_of h) vs r, total_set (put_of h) views port v w at, total_snoc (taken_of h) vs r, total_set (taken_of h) views port v w at, b.1 h)),
-      idle_snoc vs r (λ none. absurd (omega (arith, none))) (idle_set views port w (λ none. absurd (omega (arith, none, two))) b.2),
+      rights_snoc vs r ((λ none. absurd (omega (arith, none))), λ few. refl) (rights_set views port w ((λ none. refl), λ few. absurd (omega (arith, few, many))) b.2),
     )
 
-pub merges : (port : ℕ) (v : Hand) (other : ℕ) (u : Hand) → 0 < v.parts → Merges Balanced port v other u (hand (v.parts + u.parts) (v.put ++ u.put) (v.taken ++ u.taken)) (hand 0 [] [])
-merges port v other u some_part items views b at two at' =
+pub spares : (port : ℕ) (v : Hand) → Forks Balanced port v v (hand 0 [] [])
+spares port v items views b at =
+    let vs : List Hand = set views port v in
+    let r : Hand = hand 0 [] [] in (
+      omega (arith, total_snoc parts vs r, total_set parts views port v v at, b.0),
+      (λ h. omega (arith, total_snoc (put_of h) vs r, total_set (put_of h) views port v v at, total_snoc (taken_of h) vs r, total_set (taken_of h) views port v v at, b.1 h)),
+      rights_snoc vs r ((λ none. refl), λ few. refl) (rights_set views port v (b.2 port v at) b.2),
+    )
+
+pub merges : (port : ℕ) (v : Hand) (other : ℕ) (u : Hand) → 2 < v.parts → Merges Balanced port v other u (hand (v.parts + u.parts) (v.put ++ u.put) (v.taken ++ u.taken)) (hand 0 [] [])
+merges port v other u many items views b at two at' =
     let w : Hand = hand (v.parts + u.parts) (v.put ++ u.put) (v.taken ++ u.taken) in
     let vs : List Hand = set views port w in
     let r : Hand = hand 0 [] [] in (
@@ -123,12 +133,20 @@ merges port v other u some_part items views b at two at' =
         weigh_append h v.put u.put,
         weigh_append h v.taken u.taken,
       )),
-      idle_set vs other r (λ none. (refl, refl)) (idle_set views port w (λ none. absurd (omega (arith, none, some_part))) b.2),
+      rights_set vs other r ((λ none. refl), λ few. refl) (rights_set views port w ((λ none. absurd (omega (arith, none, many))), λ few. absurd (omega (arith, few, many))) b.2),
     )
 
-pub learns : (port : ℕ) (v : Hand) → v.parts ≡ 3 → Learns Balanced port v (λ items. (h : Task → ℕ) → weigh h v.put ≡ weigh h v.taken + weigh h items)
-learns port v all items views b at h =
-    let whole : total parts views ≡ v.parts = omega (arith, b.0, all) in
-    let puts : total (put_of h) views ≡ weigh h v.put = alone (put_of h) views port v (λ n u there none. ap (weigh h) (b.2 n u there none).0) at whole in
-    let takes : total (taken_of h) views ≡ weigh h v.taken = alone (taken_of h) views port v (λ n u there none. ap (weigh h) (b.2 n u there none).1) at whole in
+-- with three parts or more
+pub knows : (port : ℕ) (v : Hand) → 2 < v.parts → Learns Balanced port v (λ items. (h : Task → ℕ) → weigh h v.taken ≤ weigh h v.put)
+knows port v many items views b at h =
+    let all : total parts views < v.parts + 3 = omega (arith, b.0, many) in
+    let puts : total (put_of h) views ≡ weigh h v.put = alone 3 (put_of h) views port v (λ n u there few. ap (weigh h) ((b.2 n u there).1 few)) at all in
+    omega (arith, b.1 h, puts, within (taken_of h) views port v at)
+
+-- with all of them
+pub learns : (port : ℕ) (v : Hand) → v.parts ≡ 5 → Learns Balanced port v (λ items. (h : Task → ℕ) → weigh h v.put ≡ weigh h v.taken + weigh h items)
+learns port v whole items views b at h =
+    let all : total parts views < v.parts + 1 = omega (arith, b.0, whole) in
+    let puts : total (put_of h) views ≡ weigh h v.put = alone 1 (put_of h) views port v (λ n u there few. ap (weigh h) ((b.2 n u there).1 (omega (arith, few)))) at all in
+    let takes : total (taken_of h) views ≡ weigh h v.taken = alone 1 (taken_of h) views port v (λ n u there few. ap (weigh h) ((b.2 n u there).0 (omega (arith, few)))) at all in
     omega (arith, b.1 h, puts, takes)

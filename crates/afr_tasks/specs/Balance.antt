@@ -1,5 +1,5 @@
 -- What was put is what was taken and what the queue holds, however the tasks are weighed.
-use Rattle.std.specs.Prelude.{◌≡◌, ℕ, ◌+◌, List, [], ◌∷◌}
+use Rattle.std.specs.Prelude.{◌≡◌, ℕ, ◌+◌, ◌<◌, List, [], ◌∷◌}
 use mathlib.Core.Option.{some}
 use lib.ListN.{get_elem?}
 use Rattle.afr_tasks.specs.declared.rule.Hand.{Hand}
@@ -18,15 +18,15 @@ abbrev pub total : (Hand → ℕ) → List Hand → ℕ
 total f [] = 0
 total f (v ∷ vs) = f v + total f vs
 
--- a pass with no part has put and taken nothing
-abbrev pub IsEmptyIfIdle : Hand → Type 0
-IsEmptyIfIdle v = v.parts ≡ 0 → (v.put ≡ []) × (v.taken ≡ [])
+-- a pass with no part has taken nothing, and one with fewer than three has put nothing: of five parts only one pass can have three
+abbrev pub HasRights : Hand → Type 0
+HasRights v = (v.parts ≡ 0 → v.taken ≡ []) × (v.parts < 3 → v.put ≡ [])
 
-abbrev pub IdleIsEmpty : List Hand → Type 0
-IdleIsEmpty views = (port : ℕ) (v : Hand) → get_elem? views port ≡ some v → IsEmptyIfIdle v
+abbrev pub AllHaveRights : List Hand → Type 0
+AllHaveRights views = (port : ℕ) (v : Hand) → get_elem? views port ≡ some v → HasRights v
 
 abbrev pub Balanced : List Task → List Hand → Type 0
 Balanced items views =
-    (total (λ v. v.parts) views ≡ 3)
+    (total (λ v. v.parts) views ≡ 5)
     × ((h : Task → ℕ) → total (λ v. weigh h v.put) views ≡ total (λ v. weigh h v.taken) views + weigh h items)
-    × IdleIsEmpty views
+    × AllHaveRights views

@@ -1,4 +1,4 @@
--- The parts of a queue of tasks: three passes of one queue, each with one part of the right to know the whole.
+-- The parts of a queue of tasks: three passes of one queue, of which the crawler's has three of five parts, and each worker's one.
 use Rattle.std.specs.Prelude.{◌≡◌, ◌+◌, ◌≤◌, ℕ, Option, [], length}
 use Rattle.crossbeam_queue.specs.Passes.{IsPassOf, Pass, ruled_capacity, view}
 use Rattle.crossbeam_queue.specs.declared.array_queue.Doing.{Doing}
@@ -19,7 +19,7 @@ module _ {Q A : Type 0} where
     pub second_of : IsPassOf queue second
     pub third_of : IsPassOf queue third
     -- the crawler takes nothing, and the workers put nothing
-    pub puts : view crawler ≡ hand 1 (view crawler).put []
+    pub puts : view crawler ≡ hand 3 (view crawler).put []
     pub second_takes : view second ≡ hand 1 [] (view second).taken
     pub third_takes : view third ≡ hand 1 [] (view third).taken
     pub count : queued + (length (view second).taken + length (view third).taken) ≡ length (view crawler).put

@@ -15,7 +15,8 @@ pub enum Task {
     Stop,
 }
 
-/// What a pass has put and taken, and its parts of the right to know the whole. No value of it is made.
+/// What a pass has put and taken, and how many of five parts it has: who has three or more may put, and knows all that was put;
+/// who has them all knows the whole. No value of it is made.
 pub struct Hand {
     pub parts: u64,
     pub put: LinkedList<Task>,
@@ -31,19 +32,19 @@ impl Protocol<Task, Hand> for Fair {
 
     ghost holds = { Balanced };
 
-    ghost first = { hand 3 [] [] };
+    ghost first = { hand 5 [] [] };
 }
 
-/// One part goes to another pass, which has put and taken nothing; and passes are put together.
+/// One part goes to another pass, with all that was taken; and passes are put together.
 pub struct Cut;
 
 impl Split<Hand> for Cut {
     ghost use Rattle.std.specs.Prelude.{[], ◌-◌};
     ghost use Rattle.afr_tasks.specs.Balance.{hand};
 
-    ghost left = { λ v. hand (v.parts - 1) v.put v.taken };
+    ghost left = { λ v. hand (v.parts - 1) v.put [] };
 
-    ghost right = { λ v. hand 1 [] [] };
+    ghost right = { λ v. hand 1 [] v.taken };
 }
 
 impl Join<Hand> for Cut {
@@ -53,6 +54,18 @@ impl Join<Hand> for Cut {
     ghost both = { λ v w. hand (v.parts + w.parts) (v.put ++ w.put) (v.taken ++ w.taken) };
 
     ghost spent = { hand 0 [] [] };
+}
+
+/// Another pass has no part.
+pub struct Spare;
+
+impl Split<Hand> for Spare {
+    ghost use Rattle.std.specs.Prelude.{[]};
+    ghost use Rattle.afr_tasks.specs.Balance.{hand};
+
+    ghost left = { λ v. v };
+
+    ghost right = { λ v. hand 0 [] [] };
 }
 
 /// A task was put.
@@ -73,6 +86,17 @@ impl Outcome<Task, Hand> for Takes {
     ghost use Rattle.afr_tasks.specs.Balance.{hand};
 
     ghost then = { λ v x w. w ≡ hand v.parts v.put (v.taken ++ x ∷ []) };
+}
+
+/// What the pass has taken was put.
+pub struct Known;
+
+impl Lesson<Task, Hand> for Known {
+    ghost use Rattle.std.specs.Prelude.{◌≤◌, ℕ};
+    ghost use Rattle.afr_tasks.specs.Balance.{weigh};
+    ghost use Rattle.afr_tasks.specs.declared.rule.Task.{Task};
+
+    ghost fact = { λ v items. (h : Task → ℕ) → weigh h v.taken ≤ weigh h v.put };
 }
 
 /// The whole is known.

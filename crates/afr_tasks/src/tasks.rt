@@ -1,15 +1,16 @@
 //! The queue of tasks and its three passes.
-ghost use Rattle.std.specs.Prelude.{◌≡◌, ◌≤◌, ◌+◌, ◌++◌, ◌∷◌, [], ℕ, IfOk, None, Some, false, length, true};
+ghost use Rattle.std.specs.Prelude.{◌≡◌, ◌<◌, ◌≤◌, ◌+◌, ◌++◌, ◌∷◌, [], ℕ, Contains, IfOk, IfSome, None, Some, false, length, true};
 ghost use Rattle.crossbeam_queue.specs.Passes.{IsPassOf, IsSamePass, view};
 ghost use Rattle.afr_tasks.specs.Balance.{hand, weigh};
 ghost use Rattle.afr_tasks.specs.Exchange.{Exchange, queued_in, with_taken};
 ghost use Rattle.afr_tasks.specs.declared.rule.Task.{Task};
 
-use crate::rule::{Cut, Hand, Puts, Queue, Takes, Task, Total};
+use crate::rule::{Cut, Hand, Known, Puts, Queue, Spare, Takes, Task, Total};
 use afr_base::NoMemory;
 use crossbeam_queue::Pass;
 use std::alloc::Global;
 use std::marker::Model;
+use std::mem;
 
 /// How many tasks may wait to be taken.
 pub const MOST_TASKS: usize = 64;
@@ -41,6 +42,47 @@ impl Model for Tasks {
     ghost view = { λ t. exchange_of t.crawler t.second t.third };
 
     ghost invariant = { λ t. AreParts t.queue t.crawler t.second t.third t.queued };
+}
+
+/// A worker's pass takes the task that waits longest, and the crawler's, which knows all that was put, tells that it was.
+fn take_as(
+    queue: &Queue,
+    crawler: &mut Pass<Task, Hand>,
+    worker: &mut Pass<Task, Hand>,
+    queued: &mut usize,
+) -> Option<Task>
+    requires some { 0 < queued.old }
+    requires crawler { IsPassOf queue.now crawler.old × (view crawler.old ≡ hand 3 (view crawler.old).put []) }
+    requires worker { IsPassOf queue.now worker.old × (view worker.old ≡ hand 1 [] (view worker.old).taken) }
+    ensures passes { IsPassOf queue.now crawler.new × IsPassOf queue.now worker.new }
+    ensures crawler { view crawler.new ≡ view crawler.old }
+    ensures less { IfSome result (λ task. queued.new + 1 ≡ queued.old) }
+    ensures some { IfSome result (λ task. view worker.new ≡ hand 1 [] ((view worker.old).taken ++ task ∷ [])) }
+    ensures known { IfSome result (λ task. Contains (view crawler.old).put task) }
+    ensures none { result ≡ None → (view worker.new ≡ view worker.old) × (queued.new ≡ queued.old) }
+{
+    let Some(task) = queue.try_pop_as::<Takes>(worker) else {
+        return None;
+    };
+    tell(queue, crawler, worker);
+    *queued -= 1;
+    Some(task)
+}
+
+/// What a worker's pass has taken was put, which the crawler's pass knows: for a moment it has the part of the worker's.
+fn tell(queue: &Queue, crawler: &mut Pass<Task, Hand>, worker: &mut Pass<Task, Hand>)
+    requires crawler { IsPassOf queue.now crawler.old × (view crawler.old ≡ hand 3 (view crawler.old).put []) }
+    requires worker { IsPassOf queue.now worker.old × (view worker.old ≡ hand 1 [] (view worker.old).taken) }
+    ensures passes { IsPassOf queue.now crawler.new × IsPassOf queue.now worker.new }
+    ensures crawler { view crawler.new ≡ view crawler.old }
+    ensures worker { view worker.new ≡ view worker.old }
+    ensures known { (h : Task → ℕ) → weigh h (view worker.old).taken ≤ weigh h (view crawler.old).put }
+{
+    let spare = queue.another::<Spare>(crawler);
+    let whole = mem::replace(worker, spare);
+    queue.absorb::<Cut>(crawler, whole);
+    queue.learn_as::<Known>(crawler);
+    *worker = queue.another::<Cut>(crawler);
 }
 
 impl Tasks {
@@ -90,18 +132,24 @@ impl Tasks {
     /// The worker takes the task that waits longest.
     pub fn take(&mut self, worker: Worker) -> Option<Task>
         ensures some { (task : Task) → result ≡ Some task → self.new ≡ with_taken worker task self.old }
+        ensures known { IfSome result (λ task. Contains self.old.put task) }
         ensures none { result ≡ None → self.new ≡ self.old }
         ensures empty { queued_in self.old ≡ 0 → result ≡ None }
     {
         if self.queued == 0 {
             return None;
         }
-        let task = match worker {
-            Worker::Second => self.queue.try_pop_as::<Takes>(&mut self.second),
-            Worker::Third => self.queue.try_pop_as::<Takes>(&mut self.third),
-        }?;
-        self.queued -= 1;
-        Some(task)
+        let Tasks {
+            queue,
+            crawler,
+            second,
+            third,
+            queued,
+        } = self;
+        match worker {
+            Worker::Second => take_as(queue, crawler, second, queued),
+            Worker::Third => take_as(queue, crawler, third, queued),
+        }
     }
 
     /// Where none waits, the workers have taken each task as often as it was put, however the tasks are weighed.

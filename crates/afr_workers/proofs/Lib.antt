@@ -3,3 +3,7 @@ pub mod GivenLemmas
 pub mod KilledLemmas
 pub mod CrewLemmas
 pub mod PassLemmas
+pub mod PutLemmas
+pub mod WorkshopLemmas
+pub mod BeginningLemmas
+pub mod EndingLemmas

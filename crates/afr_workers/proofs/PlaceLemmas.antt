@@ -128,7 +128,7 @@ within [] at item is = absurd (cc is)
 within (x ∷ list) zero item is = omega arith
 within (x ∷ list) (suc at) item is = omega (arith, within list at item is)
 
-there_within : (lists : Lists) (round : ℕ) (list : List Item) → list_at round lists ≡ Some list → round < length lists
+pub there_within : (lists : Lists) (round : ℕ) (list : List Item) → list_at round lists ≡ Some list → round < length lists
 there_within lists round list given = by (nat_lt round (length lists)) refl
   where
     by : (small : Bool) → nat_lt round (length lists) ≡ small → round < length lists

@@ -1,2 +1,4 @@
 pub mod Cursor
 pub mod Crew
+pub mod Workshop
+pub mod Handed

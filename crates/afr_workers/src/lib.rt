@@ -4,9 +4,16 @@
 mod crawling;
 mod crew;
 mod due;
+mod ending;
 mod giving;
 mod next;
 mod passes;
+mod putting;
+mod stepping;
+mod taking;
+mod threads;
 mod turns;
+mod workshop;
 
 pub use crawling::crawl_here;
+pub use threads::crawl;

@@ -6,7 +6,7 @@ use Rattle.afr_cli.proofs.RunLemmas.{eager_crawl, few_more, left_crawl, left_liv
 use Rattle.afr_cli.proofs.live.run_asked.Goals as goal
 
 pub crawl_plan-requires-clause-form : goal.crawl_plan-requires-clause-form
-crawl_plan-requires-clause-form g c = sym c.crawls.ensures ∙ c.if-crawls.true
+crawl_plan-requires-clause-form g c = λ κs within. sym c.crawls.ensures ∙ c.if-crawls.true
 
 pub run_live-requires-clause-form : goal.run_live-requires-clause-form
 run_live-requires-clause-form g c = λ κs within. sym c.crawls.ensures ∙ c.if-crawls.false

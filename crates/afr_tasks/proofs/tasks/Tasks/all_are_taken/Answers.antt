@@ -4,7 +4,7 @@ use Rattle.afr_tasks.specs.Balance.{weigh}
 use Rattle.afr_tasks.specs.Exchange.{Exchange, queued_in}
 use Rattle.afr_tasks.specs.declared.rule.Hand.{Hand}
 use Rattle.afr_tasks.proofs.Balances.{learns, merges}
-use Rattle.afr_tasks.proofs.TasksLemmas.{all_taken, parts_of, three_parts}
+use Rattle.afr_tasks.proofs.TasksLemmas.{all_taken, parts_of, five_parts}
 use Rattle.afr_tasks.proofs.tasks.Tasks.all_are_taken.Goals as goal
 
 pub absorb-requires-clause-rule : goal.absorb-requires-clause-rule
@@ -14,7 +14,7 @@ pub absorb-requires-2-clause-rule : goal.absorb-requires-2-clause-rule
 absorb-requires-2-clause-rule c = merges _ _ _ _ (omega (arith, ap (λ (v : Hand). v.parts) c.absorb.ensures.rule, parts_of c.self.invariant.puts))
 
 pub learn_as-requires-clause-rule : goal.learn_as-requires-clause-rule
-learn_as-requires-clause-rule c = learns _ _ (three_parts _ _ _ _ _ c.self.invariant.puts c.self.invariant.second_takes c.self.invariant.third_takes c.absorb.ensures.rule c.absorb-2.ensures.rule)
+learn_as-requires-clause-rule c = learns _ _ (five_parts _ _ _ _ _ c.self.invariant.puts c.self.invariant.second_takes c.self.invariant.third_takes c.absorb.ensures.rule c.absorb-2.ensures.rule)
 
 pub returns : goal.returns
 returns c h =
