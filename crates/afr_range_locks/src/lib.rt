@@ -3,6 +3,7 @@
 
 mod got;
 mod held;
+mod late;
 mod lockable;
 mod ranges;
 mod table;

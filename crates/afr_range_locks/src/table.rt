@@ -325,7 +325,7 @@ fn first_at_place<A: Lockable>(
     None
 }
 
-fn conflicts<A: Lockable>(wanted: &HeldLock<A>, held: &HeldLock<A>) -> bool
+pub(crate) fn conflicts<A: Lockable>(wanted: &HeldLock<A>, held: &HeldLock<A>) -> bool
     ensures { result ≡ conflicts A.overlap wanted.now held.now }
 {
     held.owner.0 != wanted.owner.0
@@ -333,7 +333,7 @@ fn conflicts<A: Lockable>(wanted: &HeldLock<A>, held: &HeldLock<A>) -> bool
         && wanted.area.overlaps(&held.area)
 }
 
-fn is_lock<A: Lockable>(one: &HeldLock<A>, held: &HeldLock<A>) -> bool
+pub(crate) fn is_lock<A: Lockable>(one: &HeldLock<A>, held: &HeldLock<A>) -> bool
     ensures { result ≡ is_lock A.same one.now held.now }
 {
     one.owner.0 == held.owner.0
