@@ -130,7 +130,8 @@ impl Content {
         ensures bytes { self.new.bytes ≡ zeroed from to self.old.bytes }
         ensures pages { self.new.pages ≡ self.old.pages }
     {
-        if self.len as usize <= from {
+        let present = self.len as usize;
+        if present <= from {
             return;
         }
         pages::zero(&mut self.pages, from, to);

@@ -1,5 +1,5 @@
 -- Which line each entry of the log stands for.
-use Rattle.std.specs.Prelude.{◌≡◌, ◌++◌, ℕ, ◌+◌, ◌<◌, ◌^◌, nat_lt, if◌then◌else◌, not, ◌&&◌, Bool, true, false, List, [], ◌∷◌, map, slice_index_or}
+use Rattle.std.specs.Prelude.{ℕ, ◌+◌, ◌<◌, ◌^◌, nat_lt, if◌then◌else◌, not, ◌&&◌, Bool, true, false, List, [], ◌∷◌, map, slice_index_or}
 use Rattle.afr_base.specs.Marks.{no_marks, with_marks, zero_marks}
 use Rattle.afr_base.specs.declared.ids.Gfid.{Gfid}
 use Rattle.afr_base.specs.declared.ids.Kind.{Kind}
@@ -160,8 +160,3 @@ AreThere count (packed ∷ more) = IsThere count packed × AreThere count more
 -- the lines of all entries
 abbrev pub lines_in : List Line → List Packed → List Line
 lines_in kept packed = map (line_of kept) packed
-
--- the entries show one line more
-pub record Puts (line : Line) (old new : List Packed) : Type 0 where
-  pub lines : (kept : List Line) → lines_in kept new ≡ lines_in kept old ++ line ∷ []
-  pub there : (count : ℕ) → AreThere count old → AreThere count new

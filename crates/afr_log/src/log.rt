@@ -210,7 +210,7 @@ impl Log {
         requires { self.old.room ≡ true }
         ensures { self.new.items ≡ self.old.items ++ ask_by by request.now ∷ [] }
     {
-        if !pack(&mut self.packed, request, by) {
+        if pack(&mut self.packed, request, by).is_none() {
             self.keep_short(request, by);
         }
     }

@@ -6,7 +6,7 @@ ghost use Rattle.afr_lines.specs.declared.answer.Told.TheVariants.{Seen};
 ghost use Rattle.afr_lines.specs.declared.line.Line.{Line};
 ghost use Rattle.afr_base.specs.Marks.{no_marks};
 ghost use Rattle.afr_lines.specs.declared.request.Request.TheVariants.{Lock, Mend, Settle, Unlock};
-ghost use Rattle.afr_log.specs.Entries.{AreThere, IsThere, Puts, ask_by, line_of, lines_in, told_in};
+ghost use Rattle.afr_log.specs.Entries.{AreThere, IsThere, ask_by, line_of, lines_in, told_in};
 
 use crate::asked::Asker;
 use crate::heals::ShortEnd;
@@ -231,7 +231,7 @@ pub(crate) fn short_of(answer: &Answer) -> Option<Short>
 fn clean(view: &View) -> Option<Short>
     ensures { IfSome result (λ short. told_in short ≡ Seen view.now) }
 {
-    if !view.marks.is_zero() {
+    if view.marks != AllMarks::zero() {
         return None;
     }
     match view.what {
@@ -253,12 +253,13 @@ fn put(packed: &mut Vec<Packed>, entry: Packed) -> Option<()>
 
 /// Adds the entry of a request, if it has one: a repair of names holds too many numbers, and a settling has one where it was
 /// done. Each is written where it stands.
-pub(crate) fn pack(packed: &mut Vec<Packed>, request: &Request, by: By) -> bool
+pub(crate) fn pack(packed: &mut Vec<Packed>, request: &Request, by: By) -> Option<()>
     requires room { vec_len packed.old < vec_capacity packed.old }
-    ensures put { result ≡ true → Puts (ask_by by request.now) packed.old.items packed.new.items }
-    ensures none { result ≡ false → packed.new ≡ packed.old }
+    ensures lines { is_some result ≡ true → (kept : List Line) → lines_in kept packed.new.items ≡ lines_in kept packed.old.items ++ ask_by by request.now ∷ [] }
+    ensures there { is_some result ≡ true → (count : ℕ) → AreThere count packed.old.items → AreThere count packed.new.items }
+    ensures none { is_some result ≡ false → packed.new ≡ packed.old }
 {
-    let done = match *request {
+    match *request {
         Request::Lock { domain, area } => pack_lock(packed, domain, &area, by),
         Request::Unlock { domain, area } => pack_unlock(packed, domain, &area, by),
         Request::Pre { .. } | Request::Apply { .. } | Request::Post { .. } => {
@@ -267,13 +268,13 @@ pub(crate) fn pack(packed: &mut Vec<Packed>, request: &Request, by: By) -> bool
         Request::Mend { repair } => pack_repair(packed, &repair, by),
         Request::Settle { gfid, kind, less } => pack_settle(packed, gfid, kind, &less, by),
         _ => pack_read(packed, request, by),
-    };
-    done.is_some()
+    }
 }
 
 fn pack_read(packed: &mut Vec<Packed>, request: &Request, by: By) -> Option<()>
     requires room { vec_len packed.old < vec_capacity packed.old }
-    ensures put { is_some result ≡ true → Puts (ask_by by request.now) packed.old.items packed.new.items }
+    ensures lines { is_some result ≡ true → (kept : List Line) → lines_in kept packed.new.items ≡ lines_in kept packed.old.items ++ ask_by by request.now ∷ [] }
+    ensures there { is_some result ≡ true → (count : ℕ) → AreThere count packed.old.items → AreThere count packed.new.items }
     ensures none { is_some result ≡ false → packed.new ≡ packed.old }
 {
     match *request {
@@ -312,7 +313,8 @@ fn pack_read(packed: &mut Vec<Packed>, request: &Request, by: By) -> Option<()>
 
 fn pack_change(packed: &mut Vec<Packed>, request: &Request, by: By) -> Option<()>
     requires room { vec_len packed.old < vec_capacity packed.old }
-    ensures put { is_some result ≡ true → Puts (ask_by by request.now) packed.old.items packed.new.items }
+    ensures lines { is_some result ≡ true → (kept : List Line) → lines_in kept packed.new.items ≡ lines_in kept packed.old.items ++ ask_by by request.now ∷ [] }
+    ensures there { is_some result ≡ true → (count : ℕ) → AreThere count packed.old.items → AreThere count packed.new.items }
     ensures none { is_some result ≡ false → packed.new ≡ packed.old }
 {
     match *request {
@@ -340,7 +342,8 @@ fn pack_change(packed: &mut Vec<Packed>, request: &Request, by: By) -> Option<()
 
 fn pack_lock(packed: &mut Vec<Packed>, domain: Domain, area: &Area, by: By) -> Option<()>
     requires room { vec_len packed.old < vec_capacity packed.old }
-    ensures put { is_some result ≡ true → Puts (ask_by by (Lock domain area.now)) packed.old.items packed.new.items }
+    ensures lines { is_some result ≡ true → (kept : List Line) → lines_in kept packed.new.items ≡ lines_in kept packed.old.items ++ ask_by by (Lock domain area.now) ∷ [] }
+    ensures there { is_some result ≡ true → (count : ℕ) → AreThere count packed.old.items → AreThere count packed.new.items }
     ensures none { is_some result ≡ false → packed.new ≡ packed.old }
 {
     match *area {
@@ -365,7 +368,8 @@ fn pack_lock(packed: &mut Vec<Packed>, domain: Domain, area: &Area, by: By) -> O
 
 fn pack_unlock(packed: &mut Vec<Packed>, domain: Domain, area: &Area, by: By) -> Option<()>
     requires room { vec_len packed.old < vec_capacity packed.old }
-    ensures put { is_some result ≡ true → Puts (ask_by by (Unlock domain area.now)) packed.old.items packed.new.items }
+    ensures lines { is_some result ≡ true → (kept : List Line) → lines_in kept packed.new.items ≡ lines_in kept packed.old.items ++ ask_by by (Unlock domain area.now) ∷ [] }
+    ensures there { is_some result ≡ true → (count : ℕ) → AreThere count packed.old.items → AreThere count packed.new.items }
     ensures none { is_some result ≡ false → packed.new ≡ packed.old }
 {
     match *area {
@@ -390,7 +394,8 @@ fn pack_unlock(packed: &mut Vec<Packed>, domain: Domain, area: &Area, by: By) ->
 
 fn pack_repair(packed: &mut Vec<Packed>, repair: &Repair, by: By) -> Option<()>
     requires room { vec_len packed.old < vec_capacity packed.old }
-    ensures put { is_some result ≡ true → Puts (ask_by by (Mend repair.now)) packed.old.items packed.new.items }
+    ensures lines { is_some result ≡ true → (kept : List Line) → lines_in kept packed.new.items ≡ lines_in kept packed.old.items ++ ask_by by (Mend repair.now) ∷ [] }
+    ensures there { is_some result ≡ true → (count : ℕ) → AreThere count packed.old.items → AreThere count packed.new.items }
     ensures none { is_some result ≡ false → packed.new ≡ packed.old }
 {
     match *repair {
@@ -422,7 +427,8 @@ fn pack_repair(packed: &mut Vec<Packed>, repair: &Repair, by: By) -> Option<()>
 
 fn pack_settle(packed: &mut Vec<Packed>, gfid: Gfid, kind: Kind, less: &Marks, by: By) -> Option<()>
     requires room { vec_len packed.old < vec_capacity packed.old }
-    ensures put { is_some result ≡ true → Puts (ask_by by (Settle gfid kind less.now)) packed.old.items packed.new.items }
+    ensures lines { is_some result ≡ true → (kept : List Line) → lines_in kept packed.new.items ≡ lines_in kept packed.old.items ++ ask_by by (Settle gfid kind less.now) ∷ [] }
+    ensures there { is_some result ≡ true → (count : ℕ) → AreThere count packed.old.items → AreThere count packed.new.items }
     ensures none { is_some result ≡ false → packed.new ≡ packed.old }
 {
     match by.told {

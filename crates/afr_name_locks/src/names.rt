@@ -6,7 +6,7 @@ ghost use Rattle.afr_range_locks.specs.declared.got.Got.TheVariants as got;
 
 use afr_base::{ActorId, Gfid, NameId, NoMemory};
 use afr_lines::{Domain, HeldLock};
-use afr_range_locks::{Got, HeldLocks, Lockable, Place, Reach, Span};
+use afr_range_locks::{Got, LockTable, Lockable, Place, Reach, Span};
 use std::alloc::Global;
 use std::marker::Model;
 
@@ -96,7 +96,7 @@ fn same_name(one: Option<NameId>, other: Option<NameId>) -> bool
 /// They are kept in the order of domain, directory, name and grant.
 #[derive(Drop)]
 pub struct NameLocks {
-    held: HeldLocks<DirName>,
+    held: LockTable<DirName>,
 }
 
 impl Model for NameLocks {
@@ -114,7 +114,7 @@ impl NameLocks {
         ensures { result ≡ [] }
     {
         NameLocks {
-            held: HeldLocks::new(alloc),
+            held: LockTable::new(alloc),
         }
     }
 

@@ -1,10 +1,12 @@
-//! The locks that were granted last, which stand in the order of their grants.
-ghost use Rattle.std.specs.Prelude.{◌≡◌, filter, not, true};
-ghost use Rattle.afr_lines.specs.Locks.{first_conflict, is_lock, unlocked, without_owner};
+//! The locks that were granted last, in the order of their grants.
+ghost use Rattle.std.specs.Prelude.{◌≡◌, ◌++◌};
+ghost use Rattle.afr_lines.specs.Locks.{AreApart, first_conflict, unlocked, without_owner};
 
+use crate::got::Got;
+use crate::held::HeldLocks;
 use crate::lockable::Lockable;
 use crate::table::{conflicts, is_lock};
-use afr_base::ActorId;
+use afr_base::{ActorId, NoMemory};
 use afr_lines::HeldLock;
 
 /// The owner of the first lock that is in the way.
@@ -34,4 +36,25 @@ pub(crate) fn drop_late<A: Lockable>(late: &mut Vec<HeldLock<A>>, owner: ActorId
     ensures { late.new.items ≡ without_owner owner late.old.items }
 {
     late.retain(|lock| lock.owner.0 != owner.0);
+}
+
+/// The first of them goes into the map.
+#[inline(never)]
+pub(crate) fn file_first<A: Lockable>(
+    filed: &mut HeldLocks<A>,
+    late: &mut Vec<HeldLock<A>>,
+) -> Result<(), NoMemory>
+    requires { AreApart A.overlap (filed.old ++ late.old.items) }
+    ensures { filed.new ++ late.new.items ≡ filed.old ++ late.old.items }
+{
+    let Some(first) = late.first() else {
+        return Ok(());
+    };
+    match filed.lock(*first)? {
+        Got::Granted => {
+            late.remove(0);
+            Ok(())
+        }
+        Got::Held(_) => unreachable!(),
+    }
 }

@@ -5,8 +5,8 @@ ghost use Rattle.afr_lines.specs.Locks.{AreApart, IsInBoth, first_conflict, shar
 ghost use Rattle.afr_range_locks.specs.declared.got.Got.TheVariants as got;
 
 use crate::got::Got;
-use crate::held::HeldLocks;
 use crate::lockable::{Lockable, Place, Reach, Span};
+use crate::locked::LockTable;
 use afr_base::{ActorId, Gfid, NoMemory};
 use afr_lines::{Domain, HeldLock};
 use std::alloc::Global;
@@ -58,7 +58,7 @@ impl Lockable for ObjectRange {
 /// They are kept in the order of domain, object, start and grant.
 #[derive(Drop)]
 pub struct RangeLocks {
-    held: HeldLocks<ObjectRange>,
+    held: LockTable<ObjectRange>,
 }
 
 impl Model for RangeLocks {
@@ -76,7 +76,7 @@ impl RangeLocks {
         ensures { result ≡ [] }
     {
         RangeLocks {
-            held: HeldLocks::new(alloc),
+            held: LockTable::new(alloc),
         }
     }
 

@@ -1,5 +1,5 @@
 //! The map of held locks, in the order of domain, object, start and grant.
-ghost use Rattle.std.specs.Prelude.{◌≡◌, ◌+◌, ◌<◌, ◌≤◌, ◌^◌, Some, None, if◌then◌else◌, true, length, not, IfOk, OnOk, OnErr};
+ghost use Rattle.std.specs.Prelude.{◌≡◌, [], ◌+◌, ◌<◌, ◌≤◌, ◌^◌, Some, None, if◌then◌else◌, true, length, not, IfOk, OnOk, OnErr};
 ghost use Rattle.std.specs.BTreeMap.{IsOrdered, insert_entry};
 ghost use Rattle.std.specs.List.{AllByRecursion, filter};
 ghost use Rattle.afr_lines.specs.Locks.{conflicts, first_conflict, is_lock, same_domain};
@@ -50,6 +50,14 @@ fn domain_number(domain: Domain) -> u8
         Domain::Work => 0,
         Domain::Heal => 1,
     }
+}
+
+/// Whether no lock is held.
+#[inline]
+pub(crate) fn holds_none<A: Lockable>(locks: &Locks<A>) -> bool
+    ensures { result ≡ true → locks.now.entries ≡ [] }
+{
+    locks.len() == 0
 }
 
 /// The owner of the first lock that is in the way, in O(log n + k) for k locks in reach.

@@ -1,6 +1,5 @@
 use Rattle.std.specs.Prelude.{length}
-use Rattle.afr_log.proofs.Entries.{there_push}
 use Rattle.afr_log.proofs.log.Log.add_short.Goals as goal
 
 pub invariant_of-self : goal.invariant_of-self
-invariant_of-self c = rw c.push_entry.ensures.items (there_push (length c.self.inside.kept.items) c.self.inside.packed.items c.in-Some.entry c.self.invariant (c.pack.ensures.there c.in-Some.entry c.in-Some.is (length c.self.inside.kept.items)))
+invariant_of-self c = c.pack.ensures.there _ (length c.self.inside.kept.items) c.self.invariant
