@@ -93,7 +93,7 @@ fn same_name(one: Option<NameId>, other: Option<NameId>) -> bool
 }
 
 /// The locks on names that are held, which contracts see as a list with the one that was granted first at its front.
-/// They are kept in the order of domain, directory, name and grant.
+/// Those that were granted last are kept in a row, all others in the order of domain, directory, name and grant.
 #[derive(Drop)]
 pub struct NameLocks {
     held: LockTable<DirName>,
@@ -121,7 +121,7 @@ impl NameLocks {
     /// Takes the lock, unless another owner's is in the way. An owner may hold the same lock twice.
     /// O(log n + k) steps on n held locks, where k of that domain and directory are on the name or on
     /// the whole directory; for the whole directory k counts all of its locks. The others cost
-    /// nothing. After 2^64 - 1 grants it wants memory.
+    /// nothing, but for sixteen at most that were granted last. After 2^64 - 1 grants it wants memory.
     pub fn lock(
         &mut self,
         owner: ActorId,

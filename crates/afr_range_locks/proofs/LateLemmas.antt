@@ -5,6 +5,7 @@ use Rattle.std.proofs.lemmas.List.Elements.{filter-append}
 use Rattle.std.proofs.lemmas.Option.{same_Some}
 use Rattle.std.specs.List.{filter, remove}
 use Rattle.std.specs.Option.{option_or}
+use Rattle.afr_base.specs.declared.ids.ActorId.{ActorId}
 use Rattle.afr_lines.specs.Locks.{AreApart, conflicts, first_conflict}
 use Rattle.afr_lines.specs.declared.lock.HeldLock.{HeldLock}
 use Rattle.afr_range_locks.proofs.ApartLemmas.{left_over}
@@ -17,9 +18,8 @@ module _ {A : Type 0} (overlap : A → A → Bool) (wanted : HeldLock A) where
   none_found (lock ∷ more) none = rw (none 0 lock (omega arith)) (none_found more (λ k d small. none (suc k) d (omega (arith, small))))
 
   -- what is in the way in the first part is found first
-  pub found_first : (xs ys all : List (HeldLock A)) (owner : Option _) → xs ++ ys ≡ all → owner ≡ first_conflict overlap wanted xs → (owner ≡ None → ⊥) → owner ≡ first_conflict overlap wanted all
-  found_first xs ys all None same is some = absurd (some refl)
-  found_first xs ys all (Some owner) same is some = rw (← same, first_conflict-append overlap wanted xs ys, ← is) refl
+  pub found_first : (xs ys all : List (HeldLock A)) (owner : ActorId) → xs ++ ys ≡ all → Some owner ≡ first_conflict overlap wanted xs → Some owner ≡ first_conflict overlap wanted all
+  found_first xs ys all owner same is = rw (← same, first_conflict-append overlap wanted xs ys, ← is) refl
 
   pub found_last : (xs ys all : List (HeldLock A)) → xs ++ ys ≡ all → None ≡ first_conflict overlap wanted xs → first_conflict overlap wanted ys ≡ first_conflict overlap wanted all
   found_last xs ys all same none = rw (← same, first_conflict-append overlap wanted xs ys, ← none) refl

@@ -9,6 +9,9 @@ use crate::table::{conflicts, is_lock};
 use afr_base::{ActorId, NoMemory};
 use afr_lines::HeldLock;
 
+/// So many locks stand in the row: to walk over them costs less than a search.
+const MOST_LATE: usize = 16;
+
 /// The owner of the first lock that is in the way.
 pub(crate) fn blocked_late<A: Lockable>(
     late: &[HeldLock<A>],
@@ -38,9 +41,23 @@ pub(crate) fn drop_late<A: Lockable>(late: &mut Vec<HeldLock<A>>, owner: ActorId
     late.retain(|lock| lock.owner.0 != owner.0);
 }
 
-/// The first of them goes into the map.
+/// A place in the row: where it is full, the first of it goes into the map.
+pub(crate) fn make_place<A: Lockable>(
+    filed: &mut HeldLocks<A>,
+    late: &mut Vec<HeldLock<A>>,
+) -> Result<(), NoMemory>
+    requires { AreApart A.overlap (filed.old ++ late.old.items) }
+    ensures { filed.new ++ late.new.items ≡ filed.old ++ late.old.items }
+{
+    if late.len() >= MOST_LATE {
+        return file_first(filed, late);
+    }
+    Ok(())
+}
+
+/// The first of the row goes into the map.
 #[inline(never)]
-pub(crate) fn file_first<A: Lockable>(
+fn file_first<A: Lockable>(
     filed: &mut HeldLocks<A>,
     late: &mut Vec<HeldLock<A>>,
 ) -> Result<(), NoMemory>

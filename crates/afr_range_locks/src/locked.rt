@@ -5,15 +5,12 @@ ghost use Rattle.afr_range_locks.specs.declared.got.Got.TheVariants as got;
 
 use crate::got::Got;
 use crate::held::HeldLocks;
-use crate::late::{blocked_late, drop_late, file_first, release_late};
+use crate::late::{blocked_late, drop_late, make_place, release_late};
 use crate::lockable::Lockable;
 use afr_base::{ActorId, NoMemory};
 use afr_lines::HeldLock;
 use std::alloc::Global;
 use std::marker::Model;
-
-/// So many locks stand in the row: to walk over them costs less than a search.
-const MOST_LATE: usize = 16;
 
 /// The locks that are held, which contracts see as a list with the one that was granted first at its front.
 #[derive(Drop)]
@@ -46,8 +43,8 @@ impl<A: Lockable> LockTable<A> {
     }
 
     /// Takes the lock, unless another owner's is in the way. An owner may hold the same lock twice.
-    /// O(log n + k) steps on n held locks, k of which are in reach; the others cost nothing. After
-    /// 2^64 - 1 grants it wants memory.
+    /// O(log n + k) steps on n held locks, k of which are in reach; the others cost nothing, but for
+    /// those in the row. After 2^64 - 1 grants it wants memory.
     pub fn lock(&mut self, wanted: HeldLock<A>) -> Result<Got, NoMemory>
         ensures granted { result ≡ Ok got.Granted → (first_conflict A.overlap wanted self.old ≡ None) × (self.new ≡ self.old ++ wanted ∷ []) }
         ensures held { (owner : _) → result ≡ Ok (got.Held owner) → (first_conflict A.overlap wanted self.old ≡ Some owner) × (self.new ≡ self.old) }
@@ -78,9 +75,7 @@ impl<A: Lockable> LockTable<A> {
         ensures ok { OnOk result (self.new ≡ self.old ++ wanted ∷ []) }
         ensures err { OnErr result (self.new ≡ self.old) }
     {
-        if self.late.len() >= MOST_LATE {
-            file_first(&mut self.filed, &mut self.late)?;
-        }
+        make_place(&mut self.filed, &mut self.late)?;
         self.late.push(wanted)?;
         Ok(())
     }

@@ -55,7 +55,7 @@ impl Lockable for ObjectRange {
 }
 
 /// The locks on ranges that are held, which contracts see as a list with the one that was granted first at its front.
-/// They are kept in the order of domain, object, start and grant.
+/// Those that were granted last are kept in a row, all others in the order of domain, object, start and grant.
 #[derive(Drop)]
 pub struct RangeLocks {
     held: LockTable<ObjectRange>,
@@ -82,7 +82,8 @@ impl RangeLocks {
 
     /// Takes the lock, unless another owner's is in the way. An owner may hold the same lock twice.
     /// O(log n + k) steps on n held locks, where k of that domain and object start below its end;
-    /// the others cost nothing. After 2^64 - 1 grants it wants memory.
+    /// the others cost nothing, but for sixteen at most that were granted last. After 2^64 - 1 grants it
+    /// wants memory.
     pub fn lock(
         &mut self,
         owner: ActorId,
