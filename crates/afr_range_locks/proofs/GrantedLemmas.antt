@@ -66,12 +66,9 @@ module _ {A : Type 0} where
       ap₂ (λ (a b : List (HeldLock A)). a ++ b) (granted-filter p n entries) (granted_at-filter p n entries) ∙ sym (filter-append p (granted n entries) (granted_at n entries))
 
   -- of no entry no lock
-  granted_of_none : (n : ℕ) → granted n ([] {A = Key × HeldLock A}) ≡ []
-  granted_of_none zero = refl
-  granted_of_none (suc n) = rw (granted_of_none n) refl
-
   pub granted-none : (n : ℕ) (entries : List (Key × HeldLock A)) → entries ≡ [] → granted n entries ≡ []
-  granted-none n entries none = rw none (granted_of_none n)
+  granted-none zero entries none = refl
+  granted-none (suc n) entries none = rw (granted-none n entries none, none) refl
 
   -- a table stays one where some locks are taken out
   pub table_kept : (overlap : A → A → Bool) (at : A → Place) (next : ℕ) (p : HeldLock A → Bool) (entries : List (Key × HeldLock A)) → IsTable overlap at next entries → IsTable overlap at next (filter (λ e. p e.1) entries)

@@ -1,5 +1,5 @@
 -- Held locks in two parts, of which the second was granted last.
-use Rattle.std.proofs.Common.{◌≡◌, ℕ, zero, suc, ◌+◌, ◌<◌, Bool, true, false, List, [], ◌∷◌, ◌++◌, refl, sym, ap, ap₂, subst, ◌∙◌, arith, length, Some, None, Option, get_or, slice_get}
+use Rattle.std.proofs.Common.{◌≡◌, ℕ, zero, suc, ◌+◌, ◌<◌, Bool, true, false, List, [], ◌∷◌, ◌++◌, refl, sym, ap, ap₂, subst, ◌∙◌, arith, length, Some, None, Option, get_or, slice_get, if◌then◌else◌}
 use Rattle.std.proofs.lemmas.List.{append_assoc, get_or_append_left, get_or_at, length-append}
 use Rattle.std.proofs.lemmas.List.Elements.{filter-append}
 use Rattle.std.proofs.lemmas.Option.{same_Some}
@@ -8,7 +8,7 @@ use Rattle.std.specs.Option.{option_or}
 use Rattle.afr_base.specs.declared.ids.ActorId.{ActorId}
 use Rattle.afr_lines.specs.Locks.{AreApart, conflicts, first_conflict}
 use Rattle.afr_lines.specs.declared.lock.HeldLock.{HeldLock}
-use Rattle.afr_range_locks.proofs.ApartLemmas.{left_over}
+use Rattle.afr_range_locks.proofs.ApartLemmas.{left_over, pushed}
 use Rattle.afr_range_locks.proofs.ConflictLemmas.{first_conflict-append}
 
 module _ {A : Type 0} (overlap : A → A → Bool) (wanted : HeldLock A) where
@@ -36,6 +36,12 @@ module _ {A : Type 0} (overlap : A → A → Bool) where
   pub first_free : (xs ys : List (HeldLock A)) (y : HeldLock A) → slice_get ys 0 ≡ Some y → AreApart overlap (xs ++ ys) → first_conflict overlap y xs ≡ None
   first_free xs [] y is apart = absurd (cc)
   first_free xs (x ∷ ys) y is apart = let same : x ≡ y = same_Some _ _ is in subst (λ (z : HeldLock A). first_conflict overlap z xs ≡ None) same (free_before xs x ys apart)
+
+  -- where none is in the way of a lock, it may come last, or not at all
+  pub apart_after : (wanted : HeldLock A) (xs ys new all : List (HeldLock A)) (ok : Bool) → xs ++ ys ≡ all → AreApart overlap all → first_conflict overlap wanted all ≡ None → new ≡ (if ok then ys ++ wanted ∷ [] else ys) → AreApart overlap (xs ++ new)
+  apart_after wanted xs ys new all true same apart free is =
+      subst (AreApart overlap) (sym (ap (λ (l : List (HeldLock A)). xs ++ l) is ∙ sym (append_assoc xs ys (wanted ∷ [])) ∙ ap (λ (l : List (HeldLock A)). l ++ wanted ∷ []) same)) (pushed overlap wanted all apart free)
+  apart_after wanted xs ys new all false same apart free is = subst (AreApart overlap) (sym (ap (λ (l : List (HeldLock A)). xs ++ l) is ∙ same)) apart
 
 -- the first of the second part comes last in the first part
 pub moved : {X : Type 0} (xs ys : List X) (y : X) → slice_get ys 0 ≡ Some y → (xs ++ y ∷ []) ++ remove ys 0 ≡ xs ++ ys
