@@ -1,5 +1,5 @@
 -- What a caller sees of a file after each call, by what the call leaves in its pages.
-use Rattle.std.proofs.Common.{◌≡◌, ℕ, ◌+◌, ◌-◌, ◌*◌, ◌/◌, ◌<◌, ◌≤◌, max, min, Bool, false, ◌&&◌, ◌||◌, List, length, drop, take, refl, ap, sym, ◌∙◌, ◌⊎◌, inl, inr, arith, ltb}
+use Rattle.std.proofs.Common.{◌≡◌, ℕ, ◌+◌, ◌-◌, ◌*◌, ◌/◌, ◌<◌, ◌≤◌, max, min, Bool, false, ◌&&◌, ◌||◌, List, [], ◌++◌, length, drop, take, refl, ap, sym, ◌∙◌, ◌⊎◌, inl, inr, arith, ltb}
 use Rattle.std.proofs.lemmas.Bool.{cases_lt, lt-ltb, le-ltb}
 use Rattle.std.proofs.lemmas.List.{append-nil, drop_all, ext_get_or, get_or-drop, get_or-take, length-drop, length-take, take_all}
 use Rattle.std.specs.FinSet.{contains}
@@ -37,7 +37,7 @@ module _ (len : ℕ) (old ready new : ℕ → List ℕ) (file : IsFile len old) 
 pub zeroed_past : (from to : ℕ) (bytes : List ℕ) → length bytes ≤ from → zeroed from to bytes ≡ bytes
 zeroed_past from to bytes past =
     let none : min to (length bytes) - from ≡ 0 = omega (arith, past) in
-    rw (take_all from bytes past, none, drop_all (max from to) bytes (omega (arith, past))) (append-nil bytes)
+    rw (take_all from bytes past, none, drop_all (max from to) bytes (omega (arith, past))) (append-nil (bytes ++ []) ∙ append-nil bytes)
 
 -- Zeros.
 module _ (len : ℕ) (old new : ℕ → List ℕ) (from to : ℕ) (done : (q : ℕ) → new q ≡ cleared from to old q) where
