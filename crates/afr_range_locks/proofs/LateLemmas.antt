@@ -29,8 +29,8 @@ module _ {A : Type 0} (overlap : A → A → Bool) where
   pub free_before : (xs : List (HeldLock A)) (y : HeldLock A) (ys : List (HeldLock A)) → AreApart overlap (xs ++ y ∷ ys) → first_conflict overlap y xs ≡ None
   free_before xs y ys apart =
       none_found overlap y xs (λ k d small.
-          ap₂ (λ (a b : HeldLock A). conflicts overlap a b) (sym (get_or_at xs y ys d (length xs) refl)) (sym (get_or_append_left xs (y ∷ ys) d k small))
-          ∙ apart k (length xs) d small (omega (arith, length-append xs (y ∷ ys))))
+      ap₂ (λ (a b : HeldLock A). conflicts overlap a b) (sym (get_or_at xs y ys d (length xs) refl)) (sym (get_or_append_left xs (y ∷ ys) d k small))
+      ∙ apart k (length xs) d small (omega (arith, length-append xs (y ∷ ys))))
 
   -- nor of the first of the second part
   pub first_free : (xs ys : List (HeldLock A)) (y : HeldLock A) → slice_get ys 0 ≡ Some y → AreApart overlap (xs ++ ys) → first_conflict overlap y xs ≡ None
