@@ -278,34 +278,52 @@ fn pack_read(packed: &mut Vec<Packed>, request: &Request, by: By) -> Option<()>
     ensures none { is_some result ≡ false → packed.new ≡ packed.old }
 {
     match *request {
-        Request::Look { gfid } => put(packed, Packed::Look {
-            by,
-            id: id_of(gfid)?,
-        }),
-        Request::ReadBytes { gfid, at, len } => put(packed, Packed::ReadBytes {
-            by,
-            id: id_of(gfid)?,
-            at,
-            len,
-        }),
-        Request::ReadName { gfid, name } => put(packed, Packed::ReadName {
-            by,
-            id: id_of(gfid)?,
-            name,
-        }),
-        Request::List { gfid } => put(packed, Packed::List {
-            by,
-            id: id_of(gfid)?,
-        }),
-        Request::ReadAttr { gfid, key } => put(packed, Packed::ReadAttr {
-            by,
-            id: id_of(gfid)?,
-            key,
-        }),
-        Request::ReadAttrs { gfid } => put(packed, Packed::ReadAttrs {
-            by,
-            id: id_of(gfid)?,
-        }),
+        Request::Look { gfid } => put(
+            packed,
+            Packed::Look {
+                by,
+                id: id_of(gfid)?,
+            },
+        ),
+        Request::ReadBytes { gfid, at, len } => put(
+            packed,
+            Packed::ReadBytes {
+                by,
+                id: id_of(gfid)?,
+                at,
+                len,
+            },
+        ),
+        Request::ReadName { gfid, name } => put(
+            packed,
+            Packed::ReadName {
+                by,
+                id: id_of(gfid)?,
+                name,
+            },
+        ),
+        Request::List { gfid } => put(
+            packed,
+            Packed::List {
+                by,
+                id: id_of(gfid)?,
+            },
+        ),
+        Request::ReadAttr { gfid, key } => put(
+            packed,
+            Packed::ReadAttr {
+                by,
+                id: id_of(gfid)?,
+                key,
+            },
+        ),
+        Request::ReadAttrs { gfid } => put(
+            packed,
+            Packed::ReadAttrs {
+                by,
+                id: id_of(gfid)?,
+            },
+        ),
         Request::Index => put(packed, Packed::Index { by }),
         _ => None,
     }
@@ -318,24 +336,30 @@ fn pack_change(packed: &mut Vec<Packed>, request: &Request, by: By) -> Option<()
     ensures none { is_some result ≡ false → packed.new ≡ packed.old }
 {
     match *request {
-        Request::Pre { gfid, kind } => put(packed, Packed::Pre {
-            kind,
-            by,
-            id: id_of(gfid)?,
-        }),
+        Request::Pre { gfid, kind } => put(
+            packed,
+            Packed::Pre {
+                kind,
+                by,
+                id: id_of(gfid)?,
+            },
+        ),
         Request::Apply { attempt } => put(packed, Packed::Apply { by, attempt }),
         Request::Post {
             attempt,
             gfid,
             kind,
             missed,
-        } => put(packed, Packed::Post {
-            kind,
-            missed,
-            by,
-            id: id_of(gfid)?,
-            attempt,
-        }),
+        } => put(
+            packed,
+            Packed::Post {
+                kind,
+                missed,
+                by,
+                id: id_of(gfid)?,
+                attempt,
+            },
+        ),
         _ => None,
     }
 }
@@ -347,21 +371,27 @@ fn pack_lock(packed: &mut Vec<Packed>, domain: Domain, area: &Area, by: By) -> O
     ensures none { is_some result ≡ false → packed.new ≡ packed.old }
 {
     match *area {
-        Area::Range { gfid, from, to } => put(packed, Packed::LockRange {
-            domain,
-            by,
-            id: id_of(gfid)?,
-            from,
-            to,
-        }),
-        Area::Name { gfid, name } => {
-            let id = id_of(gfid)?;
-            put(packed, Packed::LockName {
+        Area::Range { gfid, from, to } => put(
+            packed,
+            Packed::LockRange {
                 domain,
                 by,
-                id,
-                name,
-            })
+                id: id_of(gfid)?,
+                from,
+                to,
+            },
+        ),
+        Area::Name { gfid, name } => {
+            let id = id_of(gfid)?;
+            put(
+                packed,
+                Packed::LockName {
+                    domain,
+                    by,
+                    id,
+                    name,
+                },
+            )
         }
     }
 }
@@ -373,21 +403,27 @@ fn pack_unlock(packed: &mut Vec<Packed>, domain: Domain, area: &Area, by: By) ->
     ensures none { is_some result ≡ false → packed.new ≡ packed.old }
 {
     match *area {
-        Area::Range { gfid, from, to } => put(packed, Packed::UnlockRange {
-            domain,
-            by,
-            id: id_of(gfid)?,
-            from,
-            to,
-        }),
-        Area::Name { gfid, name } => {
-            let id = id_of(gfid)?;
-            put(packed, Packed::UnlockName {
+        Area::Range { gfid, from, to } => put(
+            packed,
+            Packed::UnlockRange {
                 domain,
                 by,
-                id,
-                name,
-            })
+                id: id_of(gfid)?,
+                from,
+                to,
+            },
+        ),
+        Area::Name { gfid, name } => {
+            let id = id_of(gfid)?;
+            put(
+                packed,
+                Packed::UnlockName {
+                    domain,
+                    by,
+                    id,
+                    name,
+                },
+            )
         }
     }
 }
@@ -399,28 +435,37 @@ fn pack_repair(packed: &mut Vec<Packed>, repair: &Repair, by: By) -> Option<()>
     ensures none { is_some result ≡ false → packed.new ≡ packed.old }
 {
     match *repair {
-        Repair::CutTo { gfid, len } => put(packed, Packed::CutTo {
-            by,
-            id: id_of(gfid)?,
-            len,
-        }),
+        Repair::CutTo { gfid, len } => put(
+            packed,
+            Packed::CutTo {
+                by,
+                id: id_of(gfid)?,
+                len,
+            },
+        ),
         Repair::Copy {
             gfid,
             at,
             span,
             read,
-        } => put(packed, Packed::Copy {
-            by,
-            id: id_of(gfid)?,
-            at,
-            span,
-            read,
-        }),
-        Repair::PutAttrs { gfid, read } => put(packed, Packed::PutAttrs {
-            by,
-            id: id_of(gfid)?,
-            read,
-        }),
+        } => put(
+            packed,
+            Packed::Copy {
+                by,
+                id: id_of(gfid)?,
+                at,
+                span,
+                read,
+            },
+        ),
+        Repair::PutAttrs { gfid, read } => put(
+            packed,
+            Packed::PutAttrs {
+                by,
+                id: id_of(gfid)?,
+                read,
+            },
+        ),
         Repair::PutNames { .. } => None,
     }
 }
@@ -432,12 +477,15 @@ fn pack_settle(packed: &mut Vec<Packed>, gfid: Gfid, kind: Kind, less: &Marks, b
     ensures none { is_some result ≡ false → packed.new ≡ packed.old }
 {
     match by.told {
-        Short::Done => put(packed, Packed::Settled {
-            kind,
-            by: by.asker(),
-            id: id_of(gfid)?,
-            less: *less,
-        }),
+        Short::Done => put(
+            packed,
+            Packed::Settled {
+                kind,
+                by: by.asker(),
+                id: id_of(gfid)?,
+                less: *less,
+            },
+        ),
         _ => None,
     }
 }
