@@ -1,5 +1,5 @@
 -- The bricks of a set below a number: whether there are some, and the lowest of them.
-use Rattle.std.proofs.Common.{◌≡◌, ◌∙◌, ◌⊎◌, inl, inr, ℕ, zero, suc, ◌<◌, ◌≤◌, ◌&&◌, ◌||◌, not, Bool, true, false, List, Option, None, Some, refl, sym, ap, subst, arith}
+use Rattle.std.proofs.Common.{◌≡◌, ◌∙◌, ◌⊎◌, inl, inr, ℕ, zero, suc, ◌<◌, ◌≤◌, ◌&&◌, not, Bool, true, false, List, Option, None, Some, refl, sym, ap, subst, arith}
 use Rattle.afr_base.specs.Bricks.{below, common, is_nothing, lowest, member, minus}
 use Rattle.afr_base.specs.SetLemmas.{below_all, lowest_in, member_minus, some_member, within_below}
 use Rattle.afr_model_moves.proofs.Tests.{some_no}
@@ -22,19 +22,6 @@ find_some (suc n) p b l h least =
       | inr here ↦
           (let yes : p n ≡ true = subst (λ (m : ℕ). p m ≡ true) here h in
           rw (find_none n p (λ c k. least c (omega (arith, here, k))), yes) (ap (λ (m : ℕ). Some m) (sym here)))
-    ]
-
-or_true : (b : Bool) → true ≡ (b || true)
-or_true true = refl
-or_true false = refl
-
--- one that passes is some
-pub any_here : (n k : ℕ) (p : ℕ → Bool) → k < n → p k ≡ true → true ≡ any n p
-any_here zero k p less yes = absurd (omega (arith, less))
-any_here (suc n) k p less yes =
-    elim (last k n less) [
-      | inl before ↦ rw (← any_here n k p before yes) (or_true (p n))
-      | inr here ↦ (let at : p n ≡ true = subst (λ (m : ℕ). p m ≡ true) here yes in rw at refl)
     ]
 
 any_none : (n : ℕ) (p : ℕ → Bool) → ((b : ℕ) → b < n → p b ≡ false) → any n p ≡ false

@@ -59,7 +59,6 @@ fn shows_at(looked: &Looked, kind: Kind, x: BrickId) -> bool
     shows(&looked.views[x.0 as usize], kind)
 }
 
-#[tactic(auto, using(crate::proofs::FirstLemmas::any_here))]
 fn some_numbered(n: u8, looked: &Looked, kind: Kind) -> bool
     requires { n ≤ 5 }
     ensures { result ≡ any n (λ x. shows_number kind (views_of looked.now x)) }

@@ -24,7 +24,6 @@ pub(crate) fn may_be_source(register: &Register, s: BrickId) -> bool
 
 /// Whether some copy may be the source. It stands apart, for only the end of the looks asks for it.
 #[inline(never)]
-#[tactic(auto, using(crate::proofs::FirstLemmas::any_here))]
 fn some_may_be_source(register: &Register) -> bool
     requires { register.now.shape.n ≤ 5 }
     ensures { result ≡ any register.now.shape.n (λ s. member register.now.possible s && goes_on register.now.shape.n (keeps_in register.now.shape) (seen_as register.now) s) }
