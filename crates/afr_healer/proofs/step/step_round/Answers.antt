@@ -7,7 +7,7 @@ use Rattle.afr_healer.proofs.step.step_round.Goals as goal
 pub returns-in-Some-asks-clause-ok : goal.returns-in-Some-asks-clause-ok
 returns-in-Some-asks-clause-ok g c =
     on_ok_weaker c.asks-in-Some-asks.result
-    (λ adds. stepped c.args.a c.args.position c.args.healer.now _ c.in-Some.round c.args.servers.now _ c.args.log.now.items _ (IsFed g.F.Fn c.args.rule.now) (next.Ask c.in-Some-asks.brick c.asks.new.exchange.request) c.in-Some.is
+    (λ adds. stepped c.args.a c.args.position c.args.healer.now _ c.in-Some.round c.args.servers.now _ c.args.log.now.items _ (IsFed g.F.Fn c.args.rule.now) (next.Ask c.in-Some-asks.brick c.asks.new.request) c.in-Some.is
     (c.asks.ensures.some c.in-Some-asks.brick c.in-Some-asks.is) (adds c.args.healer.now))
     c.asks-in-Some-asks.ensures.ok
 
