@@ -1,7 +1,7 @@
 -- What a caller sees of a file after each call, by what the call leaves in its pages.
-use Rattle.std.proofs.Common.{◌≡◌, ℕ, ◌+◌, ◌-◌, ◌*◌, ◌/◌, ◌<◌, ◌≤◌, max, Bool, false, ◌&&◌, ◌||◌, List, length, drop, take, refl, ap, sym, ◌∙◌, ◌⊎◌, inl, inr, arith, ltb}
+use Rattle.std.proofs.Common.{◌≡◌, ℕ, ◌+◌, ◌-◌, ◌*◌, ◌/◌, ◌<◌, ◌≤◌, max, min, Bool, false, ◌&&◌, ◌||◌, List, [], ◌++◌, length, drop, take, refl, ap, sym, ◌∙◌, ◌⊎◌, inl, inr, arith, ltb}
 use Rattle.std.proofs.lemmas.Bool.{cases_lt, lt-ltb, le-ltb}
-use Rattle.std.proofs.lemmas.List.{ext_get_or, get_or-drop, get_or-take, length-drop, length-take, take_all}
+use Rattle.std.proofs.lemmas.List.{append-nil, drop_all, ext_get_or, get_or-drop, get_or-take, length-drop, length-take, take_all}
 use Rattle.std.specs.FinSet.{contains}
 use Rattle.std.specs.Prelude.{Err, Ok, OnErr, Result}
 use Rattle.afr_object.specs.Bytes.{written, zeroed, byte_at}
@@ -32,6 +32,12 @@ module _ (len : ℕ) (old ready new : ℕ → List ℕ) (file : IsFile len old) 
       ∙ ap (λ (f : ℕ → List ℕ). is_there f q) pages_after_write
       ∙ is_there-overlaid at bytes old q
       ∙ ap (λ (b : Bool). b || reaches at (at + length bytes) q) (sym (contains-numbers len old file q))
+
+-- Zeros past the file's end change nothing.
+pub zeroed_past : (from to : ℕ) (bytes : List ℕ) → length bytes ≤ from → zeroed from to bytes ≡ bytes
+zeroed_past from to bytes past =
+    let none : min to (length bytes) - from ≡ 0 = omega (arith, past) in
+    rw (take_all from bytes past, none, drop_all (max from to) bytes (omega (arith, past))) (append-nil (bytes ++ []) ∙ append-nil bytes)
 
 -- Zeros.
 module _ (len : ℕ) (old new : ℕ → List ℕ) (from to : ℕ) (done : (q : ℕ) → new q ≡ cleared from to old q) where

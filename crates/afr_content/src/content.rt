@@ -123,13 +123,17 @@ impl Content {
         Ok(())
     }
 
-    /// Makes the present bytes from one offset up to another zero.
+    /// Makes the present bytes from one offset up to another zero. Where the file ends before them, that is one comparison.
     fn zero(&mut self, from: usize, to: usize)
         requires order { from ≤ to }
         requires end { to ≤ 1048576 }
         ensures bytes { self.new.bytes ≡ zeroed from to self.old.bytes }
         ensures pages { self.new.pages ≡ self.old.pages }
     {
+        let present = self.len as usize;
+        if present <= from {
+            return;
+        }
         pages::zero(&mut self.pages, from, to);
     }
 

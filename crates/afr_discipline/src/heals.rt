@@ -63,14 +63,12 @@ fn some_numbered(n: u8, looked: &Looked, kind: Kind) -> bool
     requires { n ≤ 5 }
     ensures { result ≡ any n (λ x. shows_number kind (views_of looked.now x)) }
 {
-    any_of(
-        n,
-        shows_at(looked, kind, BrickId(0)),
-        shows_at(looked, kind, BrickId(1)),
-        shows_at(looked, kind, BrickId(2)),
-        shows_at(looked, kind, BrickId(3)),
-        shows_at(looked, kind, BrickId(4)),
-    )
+    for x in 0..n {
+        if shows_at(looked, kind, BrickId(x)) {
+            return true;
+        }
+    }
+    false
 }
 
 fn len_shown(view: &Option<View>) -> u32

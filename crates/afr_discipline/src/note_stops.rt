@@ -10,7 +10,6 @@ ghost use Rattle.afr_discipline.specs.Stands.{seen_as, step_of};
 
 use crate::heal_sets::is_over;
 use crate::heals::is_going_on;
-use crate::of_five::any_of;
 use crate::register::{HealPart, Register, Step};
 use afr_base::BrickId;
 
@@ -23,18 +22,18 @@ pub(crate) fn may_be_source(register: &Register, s: BrickId) -> bool
     register.possible.has(s) && is_going_on(register, s)
 }
 
+/// Whether some copy may be the source. It stands apart, for only the end of the looks asks for it.
+#[inline(never)]
 fn some_may_be_source(register: &Register) -> bool
     requires { register.now.shape.n ≤ 5 }
     ensures { result ≡ any register.now.shape.n (λ s. member register.now.possible s && goes_on register.now.shape.n (keeps_in register.now.shape) (seen_as register.now) s) }
 {
-    any_of(
-        register.shape.n,
-        may_be_source(register, BrickId(0)),
-        may_be_source(register, BrickId(1)),
-        may_be_source(register, BrickId(2)),
-        may_be_source(register, BrickId(3)),
-        may_be_source(register, BrickId(4)),
-    )
+    for s in 0..register.shape.n {
+        if may_be_source(register, BrickId(s)) {
+            return true;
+        }
+    }
+    false
 }
 
 /// Too few Work locks end a heal in its first part alone.

@@ -6,6 +6,7 @@ ghost use Rattle.afr_discipline.specs.Stands.{heal_part_of, seen_as, step_of};
 ghost use Rattle.afr_model_moves.specs.Keeps.{keeps_in};
 ghost use Rattle.afr_model_moves.specs.Register.{is_opening, over, rank, span};
 ghost use Rattle.afr_model_moves.specs.Steps.{looks_over};
+ghost use Rattle.afr_lines.specs.Told.{told_by};
 ghost use Rattle.afr_rule.specs.Choosing.{IsRule};
 ghost use Rattle.afr_heal_machine.specs.Healing.{IsChosen};
 ghost use Rattle.afr_heal_machine.specs.Source.{HasSource, is_found};
@@ -15,8 +16,29 @@ use afr_base::{BrickId, BrickSet, Kind};
 use afr_discipline::{
     HealPart, Register, Step, all_of, asked_at, note_allowed, present_part, present_step,
 };
-use afr_lines::{Request, Told};
+use afr_lines::{Answer, Request, Told};
 use afr_rule::{Candidate, SourceRule};
+
+/// What the log keeps of an answer, written in its place, for it is large.
+pub(crate) fn put_told(answer: &Answer, told: &mut Told)
+    ensures { told.new ≡ told_by answer.now }
+{
+    match answer {
+        Answer::Granted => *told = Told::Granted,
+        Answer::Held(owner) => *told = Told::Held(*owner),
+        Answer::Seen(view) => *told = Told::Seen(*view),
+        Answer::Done => *told = Told::Done,
+        Answer::Bytes(_) => *told = Told::Given,
+        Answer::Entry(_) => *told = Told::Given,
+        Answer::Names(_) => *told = Told::Given,
+        Answer::Value(_) => *told = Told::Given,
+        Answer::Attrs(_) => *told = Told::Given,
+        Answer::Index(_) => *told = Told::Given,
+        Answer::NoObject => *told = Told::NoObject,
+        Answer::NotConnected => *told = Told::NotConnected,
+        Answer::Failed => *told = Told::Failed,
+    }
+}
 
 /// Notes the request, which the discipline allows, and its answer.
 pub(crate) fn note_answer(

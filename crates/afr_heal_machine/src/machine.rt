@@ -13,7 +13,7 @@ use crate::answers::{fits, is_tellable};
 use crate::causes::outcome_after;
 use crate::contents::{ReadSoFar, keep, load, nothing, ready};
 use crate::ending::ending;
-use crate::hearing::{has_looked, note_answer, source_after};
+use crate::hearing::{has_looked, note_answer, put_told, source_after};
 use crate::laws::a_heal_stays_sound;
 use crate::outcome::HealOutcome;
 use afr_base::{BrickId, Gfid, Kind, NoMemory, Shape};
@@ -36,6 +36,8 @@ pub struct HealMachine {
     source: BrickId,
     outcome: HealOutcome,
     contents: ReadSoFar,
+    /// What the latest answer told.
+    told: Told,
 }
 
 impl Model for HealMachine {
@@ -64,6 +66,7 @@ impl HealMachine {
             source: BrickId(0),
             outcome: HealOutcome::Settled,
             contents: nothing(kind),
+            told: Told::Done,
         }
     }
 
@@ -145,17 +148,17 @@ impl HealMachine {
         ensures { IsFed F.Fn rule.now answer.old at self.old self.new }
     {
         a_heal_stays_sound();
-        let told = told_of(answer);
+        put_told(answer, &mut self.told);
         let was = self.register.broken;
         let part = present_part(&self.register);
-        note_answer(&mut self.register, brick, request, &told, at);
+        note_answer(&mut self.register, brick, request, &self.told, at);
         self.outcome = outcome_after(
             &self.register,
             self.kind,
             part,
             self.source,
             request,
-            &told,
+            &self.told,
             was,
             self.outcome,
         );

@@ -11,11 +11,11 @@ use crate::healer::Healer;
 use afr_base::{ActorId, BrickId, Gfid, Kind, NoMemory, Shape, What};
 use afr_heal_round::RoundMachine;
 use afr_law_fits::{fits_its_types, request_fits_its_types};
-use afr_lines::{Answer, HealReply, Line, Next, Reply, Request};
+use afr_lines::{HealReply, Line, Next, Reply, Request};
 use afr_log::Log;
 use afr_rule::{Candidate, SourceRule};
 use afr_server::Served;
-use afr_servers::{Servers, Visit};
+use afr_servers::{Exchange, Servers, Visit};
 use std::alloc::Global;
 
 /// A healer has the machine of its present work, and the memory of its coming move. Where it is at nothing a round begins over
@@ -76,6 +76,7 @@ pub fn step_round<F: Fn(&[Candidate]) -> usize>(
     servers: &mut Servers,
     position: u32,
     log: &mut Log,
+    exchange: &mut Exchange,
     rule: &SourceRule<F>,
 ) -> Result<(), NoMemory>
     requires rule { IsRule F.Fn rule.now }
@@ -86,13 +87,21 @@ pub fn step_round<F: Fn(&[Candidate]) -> usize>(
     ensures ok { OnOk result (Adds (λ line. Stepped (IsFed F.Fn rule.now) a position healer.old healer.new servers.old servers.new line) log.old.items log.new.items) }
     ensures err { OnErr result ((healer.new ≡ healer.old) × (servers.new ≡ servers.old) × (log.new.items ≡ log.old.items)) }
 {
-    let mut request = Request::Index;
     match &mut healer.round {
-        Some(round) => match round.asks(&mut request) {
+        Some(round) => match round.asks(&mut exchange.request) {
             Some(brick) => {
                 let visit = &mut healer.visit;
                 asks(
-                    round, visit, a, brick, &request, servers, position, log, rule,
+                    round,
+                    visit,
+                    a,
+                    brick,
+                    &exchange.request,
+                    servers,
+                    position,
+                    log,
+                    &mut exchange.given,
+                    rule,
                 )
             }
             None => {
@@ -191,6 +200,7 @@ fn asks<F: Fn(&[Candidate]) -> usize>(
     servers: &mut Servers,
     position: u32,
     log: &mut Log,
+    given: &mut Served,
     rule: &SourceRule<F>,
 ) -> Result<(), NoMemory>
     requires rule { IsRule F.Fn rule.now }
@@ -203,12 +213,8 @@ fn asks<F: Fn(&[Candidate]) -> usize>(
     request_fits_its_types(request);
     let load = round.load();
     // The answer is told and heard where it lies: it is large, and is not to be moved.
-    let mut given = Served {
-        answer: Answer::Done,
-        took: false,
-    };
-    visit.ask(a, brick, request, load, servers, &mut given)?;
-    tells(round, a, brick, request, &mut given, position, log, rule);
+    visit.ask(a, brick, request, load, servers, given)?;
+    tells(round, a, brick, request, given, position, log, rule);
     visit.met = stays_met(request);
     Ok(())
 }

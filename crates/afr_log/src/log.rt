@@ -74,6 +74,18 @@ impl Log {
         ensures room { OnOk result (self.new.room ≡ true) }
         ensures items { self.new.items ≡ self.old.items }
     {
+        if self.packed.len() == self.packed.capacity() || self.kept.len() == self.kept.capacity() {
+            return self.grow();
+        }
+        Ok(())
+    }
+
+    /// It stands apart, so that a line for which there is room pays for no call.
+    #[inline(never)]
+    fn grow(&mut self) -> Result<(), NoMemory>
+        ensures room { OnOk result (self.new.room ≡ true) }
+        ensures items { self.new.items ≡ self.old.items }
+    {
         if self.packed.len() == self.packed.capacity() {
             self.packed.try_reserve(1)?;
         }
@@ -198,9 +210,8 @@ impl Log {
         requires { self.old.room ≡ true }
         ensures { self.new.items ≡ self.old.items ++ ask_by by request.now ∷ [] }
     {
-        match pack(request, by) {
-            Some(entry) => push_entry(&mut self.packed, entry),
-            None => self.keep_short(request, by),
+        if pack(&mut self.packed, request, by).is_none() {
+            self.keep_short(request, by);
         }
     }
 
@@ -248,6 +259,7 @@ impl Log {
     }
 
     /// Whom the line at a position waits for: the holder of the transaction lock that it asked.
+    #[inline]
     pub fn waits_at(&self, at: usize) -> Option<ActorId>
         ensures line { (line : Line) → slice_get self.now.items at ≡ Some line → result ≡ waits_for line }
         ensures past { length self.now.items ≤ at → result ≡ None }
@@ -271,10 +283,7 @@ fn push_entry(packed: &mut Vec<Packed>, entry: Packed)
     requires { vec_len packed.old < vec_capacity packed.old }
     ensures items { packed.new.items ≡ packed.old.items ++ entry ∷ [] }
 {
-    match packed.push(entry) {
-        Ok(()) => {}
-        Err(_) => unreachable!(),
-    }
+    packed.push_reserved(entry);
 }
 
 /// Adds a line for which there is room.
@@ -283,8 +292,5 @@ fn push_line(kept: &mut Vec<Line>, line: Line)
     ensures { kept.new.items ≡ kept.old.items ++ line ∷ [] }
 {
     let _request = Request::Index; // a push of a value that holds such an enum is proved where the body names it
-    match kept.push(line) {
-        Ok(()) => {}
-        Err(_) => unreachable!(),
-    }
+    kept.push_reserved(line);
 }

@@ -1,12 +1,12 @@
 //! The entries of the log: nearly all requests with their answers, and the beginnings and ends of heals, in 40 bytes, and the
 //! places of the lines that are kept as they are.
-ghost use Rattle.std.specs.Prelude.{◌≡◌, ℕ, List, IfSome, Some};
+ghost use Rattle.std.specs.Prelude.{◌≡◌, ◌++◌, ◌∷◌, ◌<◌, ℕ, List, [], IfSome, Some, false, is_some, true, vec_capacity, vec_len};
 ghost use Rattle.afr_lines.specs.Told.{told_by};
 ghost use Rattle.afr_lines.specs.declared.answer.Told.TheVariants.{Seen};
 ghost use Rattle.afr_lines.specs.declared.line.Line.{Line};
 ghost use Rattle.afr_base.specs.Marks.{no_marks};
 ghost use Rattle.afr_lines.specs.declared.request.Request.TheVariants.{Lock, Mend, Settle, Unlock};
-ghost use Rattle.afr_log.specs.Entries.{IsThere, ask_by, line_of, told_in};
+ghost use Rattle.afr_log.specs.Entries.{AreThere, IsThere, ask_by, line_of, lines_in, told_in};
 
 use crate::asked::Asker;
 use crate::heals::ShortEnd;
@@ -240,178 +240,252 @@ fn clean(view: &View) -> Option<Short>
     }
 }
 
-/// The entry of a request, if it has one: a repair of names holds too many numbers, and a settling has one where it was done.
-pub(crate) fn pack(request: &Request, by: By) -> Option<Packed>
-    ensures line { (entry : Packed) → result ≡ Some entry → (kept : List Line) → line_of kept entry ≡ ask_by by request.now }
-    ensures there { (entry : Packed) → result ≡ Some entry → (count : ℕ) → IsThere count entry }
+/// Adds an entry in its place.
+fn put(packed: &mut Vec<Packed>, entry: Packed) -> Option<()>
+    requires { vec_len packed.old < vec_capacity packed.old }
+    ensures some { is_some result ≡ true }
+    ensures lines { (kept : List Line) → lines_in kept packed.new.items ≡ lines_in kept packed.old.items ++ line_of kept entry ∷ [] }
+    ensures there { (count : ℕ) → IsThere count entry → AreThere count packed.old.items → AreThere count packed.new.items }
+{
+    packed.push_reserved(entry);
+    Some(())
+}
+
+/// Adds the entry of a request, if it has one: a repair of names holds too many numbers, and a settling has one where it was
+/// done. Each is written where it stands.
+pub(crate) fn pack(packed: &mut Vec<Packed>, request: &Request, by: By) -> Option<()>
+    requires room { vec_len packed.old < vec_capacity packed.old }
+    ensures lines { is_some result ≡ true → (kept : List Line) → lines_in kept packed.new.items ≡ lines_in kept packed.old.items ++ ask_by by request.now ∷ [] }
+    ensures there { is_some result ≡ true → (count : ℕ) → AreThere count packed.old.items → AreThere count packed.new.items }
+    ensures none { is_some result ≡ false → packed.new ≡ packed.old }
 {
     match *request {
-        Request::Lock { domain, area } => pack_lock(domain, &area, by),
-        Request::Unlock { domain, area } => pack_unlock(domain, &area, by),
+        Request::Lock { domain, area } => pack_lock(packed, domain, &area, by),
+        Request::Unlock { domain, area } => pack_unlock(packed, domain, &area, by),
         Request::Pre { .. } | Request::Apply { .. } | Request::Post { .. } => {
-            pack_change(request, by)
+            pack_change(packed, request, by)
         }
-        Request::Mend { repair } => pack_repair(&repair, by),
-        Request::Settle { gfid, kind, less } => pack_settle(gfid, kind, &less, by),
-        _ => pack_read(request, by),
+        Request::Mend { repair } => pack_repair(packed, &repair, by),
+        Request::Settle { gfid, kind, less } => pack_settle(packed, gfid, kind, &less, by),
+        _ => pack_read(packed, request, by),
     }
 }
 
-fn pack_read(request: &Request, by: By) -> Option<Packed>
-    ensures line { (entry : Packed) → result ≡ Some entry → (kept : List Line) → line_of kept entry ≡ ask_by by request.now }
-    ensures there { (entry : Packed) → result ≡ Some entry → (count : ℕ) → IsThere count entry }
+fn pack_read(packed: &mut Vec<Packed>, request: &Request, by: By) -> Option<()>
+    requires room { vec_len packed.old < vec_capacity packed.old }
+    ensures lines { is_some result ≡ true → (kept : List Line) → lines_in kept packed.new.items ≡ lines_in kept packed.old.items ++ ask_by by request.now ∷ [] }
+    ensures there { is_some result ≡ true → (count : ℕ) → AreThere count packed.old.items → AreThere count packed.new.items }
+    ensures none { is_some result ≡ false → packed.new ≡ packed.old }
 {
     match *request {
-        Request::Look { gfid } => Some(Packed::Look {
-            by,
-            id: id_of(gfid)?,
-        }),
-        Request::ReadBytes { gfid, at, len } => Some(Packed::ReadBytes {
-            by,
-            id: id_of(gfid)?,
-            at,
-            len,
-        }),
-        Request::ReadName { gfid, name } => Some(Packed::ReadName {
-            by,
-            id: id_of(gfid)?,
-            name,
-        }),
-        Request::List { gfid } => Some(Packed::List {
-            by,
-            id: id_of(gfid)?,
-        }),
-        Request::ReadAttr { gfid, key } => Some(Packed::ReadAttr {
-            by,
-            id: id_of(gfid)?,
-            key,
-        }),
-        Request::ReadAttrs { gfid } => Some(Packed::ReadAttrs {
-            by,
-            id: id_of(gfid)?,
-        }),
-        Request::Index => Some(Packed::Index { by }),
+        Request::Look { gfid } => put(
+            packed,
+            Packed::Look {
+                by,
+                id: id_of(gfid)?,
+            },
+        ),
+        Request::ReadBytes { gfid, at, len } => put(
+            packed,
+            Packed::ReadBytes {
+                by,
+                id: id_of(gfid)?,
+                at,
+                len,
+            },
+        ),
+        Request::ReadName { gfid, name } => put(
+            packed,
+            Packed::ReadName {
+                by,
+                id: id_of(gfid)?,
+                name,
+            },
+        ),
+        Request::List { gfid } => put(
+            packed,
+            Packed::List {
+                by,
+                id: id_of(gfid)?,
+            },
+        ),
+        Request::ReadAttr { gfid, key } => put(
+            packed,
+            Packed::ReadAttr {
+                by,
+                id: id_of(gfid)?,
+                key,
+            },
+        ),
+        Request::ReadAttrs { gfid } => put(
+            packed,
+            Packed::ReadAttrs {
+                by,
+                id: id_of(gfid)?,
+            },
+        ),
+        Request::Index => put(packed, Packed::Index { by }),
         _ => None,
     }
 }
 
-fn pack_change(request: &Request, by: By) -> Option<Packed>
-    ensures line { (entry : Packed) → result ≡ Some entry → (kept : List Line) → line_of kept entry ≡ ask_by by request.now }
-    ensures there { (entry : Packed) → result ≡ Some entry → (count : ℕ) → IsThere count entry }
+fn pack_change(packed: &mut Vec<Packed>, request: &Request, by: By) -> Option<()>
+    requires room { vec_len packed.old < vec_capacity packed.old }
+    ensures lines { is_some result ≡ true → (kept : List Line) → lines_in kept packed.new.items ≡ lines_in kept packed.old.items ++ ask_by by request.now ∷ [] }
+    ensures there { is_some result ≡ true → (count : ℕ) → AreThere count packed.old.items → AreThere count packed.new.items }
+    ensures none { is_some result ≡ false → packed.new ≡ packed.old }
 {
     match *request {
-        Request::Pre { gfid, kind } => Some(Packed::Pre {
-            kind,
-            by,
-            id: id_of(gfid)?,
-        }),
-        Request::Apply { attempt } => Some(Packed::Apply { by, attempt }),
+        Request::Pre { gfid, kind } => put(
+            packed,
+            Packed::Pre {
+                kind,
+                by,
+                id: id_of(gfid)?,
+            },
+        ),
+        Request::Apply { attempt } => put(packed, Packed::Apply { by, attempt }),
         Request::Post {
             attempt,
             gfid,
             kind,
             missed,
-        } => Some(Packed::Post {
-            kind,
-            missed,
-            by,
-            id: id_of(gfid)?,
-            attempt,
-        }),
+        } => put(
+            packed,
+            Packed::Post {
+                kind,
+                missed,
+                by,
+                id: id_of(gfid)?,
+                attempt,
+            },
+        ),
         _ => None,
     }
 }
 
-fn pack_lock(domain: Domain, area: &Area, by: By) -> Option<Packed>
-    ensures line { (entry : Packed) → result ≡ Some entry → (kept : List Line) → line_of kept entry ≡ ask_by by (Lock domain area.now) }
-    ensures there { (entry : Packed) → result ≡ Some entry → (count : ℕ) → IsThere count entry }
+fn pack_lock(packed: &mut Vec<Packed>, domain: Domain, area: &Area, by: By) -> Option<()>
+    requires room { vec_len packed.old < vec_capacity packed.old }
+    ensures lines { is_some result ≡ true → (kept : List Line) → lines_in kept packed.new.items ≡ lines_in kept packed.old.items ++ ask_by by (Lock domain area.now) ∷ [] }
+    ensures there { is_some result ≡ true → (count : ℕ) → AreThere count packed.old.items → AreThere count packed.new.items }
+    ensures none { is_some result ≡ false → packed.new ≡ packed.old }
 {
     match *area {
-        Area::Range { gfid, from, to } => Some(Packed::LockRange {
-            domain,
-            by,
-            id: id_of(gfid)?,
-            from,
-            to,
-        }),
-        Area::Name { gfid, name } => {
-            let id = id_of(gfid)?;
-            Some(Packed::LockName {
+        Area::Range { gfid, from, to } => put(
+            packed,
+            Packed::LockRange {
                 domain,
                 by,
-                id,
-                name,
-            })
+                id: id_of(gfid)?,
+                from,
+                to,
+            },
+        ),
+        Area::Name { gfid, name } => {
+            let id = id_of(gfid)?;
+            put(
+                packed,
+                Packed::LockName {
+                    domain,
+                    by,
+                    id,
+                    name,
+                },
+            )
         }
     }
 }
 
-fn pack_unlock(domain: Domain, area: &Area, by: By) -> Option<Packed>
-    ensures line { (entry : Packed) → result ≡ Some entry → (kept : List Line) → line_of kept entry ≡ ask_by by (Unlock domain area.now) }
-    ensures there { (entry : Packed) → result ≡ Some entry → (count : ℕ) → IsThere count entry }
+fn pack_unlock(packed: &mut Vec<Packed>, domain: Domain, area: &Area, by: By) -> Option<()>
+    requires room { vec_len packed.old < vec_capacity packed.old }
+    ensures lines { is_some result ≡ true → (kept : List Line) → lines_in kept packed.new.items ≡ lines_in kept packed.old.items ++ ask_by by (Unlock domain area.now) ∷ [] }
+    ensures there { is_some result ≡ true → (count : ℕ) → AreThere count packed.old.items → AreThere count packed.new.items }
+    ensures none { is_some result ≡ false → packed.new ≡ packed.old }
 {
     match *area {
-        Area::Range { gfid, from, to } => Some(Packed::UnlockRange {
-            domain,
-            by,
-            id: id_of(gfid)?,
-            from,
-            to,
-        }),
-        Area::Name { gfid, name } => {
-            let id = id_of(gfid)?;
-            Some(Packed::UnlockName {
+        Area::Range { gfid, from, to } => put(
+            packed,
+            Packed::UnlockRange {
                 domain,
                 by,
-                id,
-                name,
-            })
+                id: id_of(gfid)?,
+                from,
+                to,
+            },
+        ),
+        Area::Name { gfid, name } => {
+            let id = id_of(gfid)?;
+            put(
+                packed,
+                Packed::UnlockName {
+                    domain,
+                    by,
+                    id,
+                    name,
+                },
+            )
         }
     }
 }
 
-fn pack_repair(repair: &Repair, by: By) -> Option<Packed>
-    ensures line { (entry : Packed) → result ≡ Some entry → (kept : List Line) → line_of kept entry ≡ ask_by by (Mend repair.now) }
-    ensures there { (entry : Packed) → result ≡ Some entry → (count : ℕ) → IsThere count entry }
+fn pack_repair(packed: &mut Vec<Packed>, repair: &Repair, by: By) -> Option<()>
+    requires room { vec_len packed.old < vec_capacity packed.old }
+    ensures lines { is_some result ≡ true → (kept : List Line) → lines_in kept packed.new.items ≡ lines_in kept packed.old.items ++ ask_by by (Mend repair.now) ∷ [] }
+    ensures there { is_some result ≡ true → (count : ℕ) → AreThere count packed.old.items → AreThere count packed.new.items }
+    ensures none { is_some result ≡ false → packed.new ≡ packed.old }
 {
     match *repair {
-        Repair::CutTo { gfid, len } => Some(Packed::CutTo {
-            by,
-            id: id_of(gfid)?,
-            len,
-        }),
+        Repair::CutTo { gfid, len } => put(
+            packed,
+            Packed::CutTo {
+                by,
+                id: id_of(gfid)?,
+                len,
+            },
+        ),
         Repair::Copy {
             gfid,
             at,
             span,
             read,
-        } => Some(Packed::Copy {
-            by,
-            id: id_of(gfid)?,
-            at,
-            span,
-            read,
-        }),
-        Repair::PutAttrs { gfid, read } => Some(Packed::PutAttrs {
-            by,
-            id: id_of(gfid)?,
-            read,
-        }),
+        } => put(
+            packed,
+            Packed::Copy {
+                by,
+                id: id_of(gfid)?,
+                at,
+                span,
+                read,
+            },
+        ),
+        Repair::PutAttrs { gfid, read } => put(
+            packed,
+            Packed::PutAttrs {
+                by,
+                id: id_of(gfid)?,
+                read,
+            },
+        ),
         Repair::PutNames { .. } => None,
     }
 }
 
-fn pack_settle(gfid: Gfid, kind: Kind, less: &Marks, by: By) -> Option<Packed>
-    ensures line { (entry : Packed) → result ≡ Some entry → (kept : List Line) → line_of kept entry ≡ ask_by by (Settle gfid kind less.now) }
-    ensures there { (entry : Packed) → result ≡ Some entry → (count : ℕ) → IsThere count entry }
+fn pack_settle(packed: &mut Vec<Packed>, gfid: Gfid, kind: Kind, less: &Marks, by: By) -> Option<()>
+    requires room { vec_len packed.old < vec_capacity packed.old }
+    ensures lines { is_some result ≡ true → (kept : List Line) → lines_in kept packed.new.items ≡ lines_in kept packed.old.items ++ ask_by by (Settle gfid kind less.now) ∷ [] }
+    ensures there { is_some result ≡ true → (count : ℕ) → AreThere count packed.old.items → AreThere count packed.new.items }
+    ensures none { is_some result ≡ false → packed.new ≡ packed.old }
 {
     match by.told {
-        Short::Done => Some(Packed::Settled {
-            kind,
-            by: by.asker(),
-            id: id_of(gfid)?,
-            less: *less,
-        }),
+        Short::Done => put(
+            packed,
+            Packed::Settled {
+                kind,
+                by: by.asker(),
+                id: id_of(gfid)?,
+                less: *less,
+            },
+        ),
         _ => None,
     }
 }

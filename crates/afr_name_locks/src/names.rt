@@ -6,7 +6,7 @@ ghost use Rattle.afr_range_locks.specs.declared.got.Got.TheVariants as got;
 
 use afr_base::{ActorId, Gfid, NameId, NoMemory};
 use afr_lines::{Domain, HeldLock};
-use afr_range_locks::{Got, HeldLocks, Lockable, Place, Reach, Span};
+use afr_range_locks::{Got, LockTable, Lockable, Place, Reach, Span};
 use std::alloc::Global;
 use std::marker::Model;
 
@@ -93,10 +93,10 @@ fn same_name(one: Option<NameId>, other: Option<NameId>) -> bool
 }
 
 /// The locks on names that are held, which contracts see as a list with the one that was granted first at its front.
-/// They are kept in the order of domain, directory, name and grant.
+/// Those that were granted last are kept in a row, all others in the order of domain, directory, name and grant.
 #[derive(Drop)]
 pub struct NameLocks {
-    held: HeldLocks<DirName>,
+    held: LockTable<DirName>,
 }
 
 impl Model for NameLocks {
@@ -114,14 +114,14 @@ impl NameLocks {
         ensures { result ≡ [] }
     {
         NameLocks {
-            held: HeldLocks::new(alloc),
+            held: LockTable::new(alloc),
         }
     }
 
     /// Takes the lock, unless another owner's is in the way. An owner may hold the same lock twice.
     /// O(log n + k) steps on n held locks, where k of that domain and directory are on the name or on
     /// the whole directory; for the whole directory k counts all of its locks. The others cost
-    /// nothing. After 2^64 - 1 grants it wants memory.
+    /// nothing, but for sixteen at most that were granted last. After 2^64 - 1 grants it wants memory.
     pub fn lock(
         &mut self,
         owner: ActorId,

@@ -40,7 +40,7 @@ weaker P Q f None h = tt
 weaker P Q f (Some a) h = f a h
 
 module _ {A : Type 0} (overlap : A → A → Bool) (wanted : HeldLock A) where
-  first_conflict-append : (xs ys : List (HeldLock A)) → first_conflict overlap wanted (xs ++ ys) ≡ option_or (first_conflict overlap wanted xs) (first_conflict overlap wanted ys)
+  pub first_conflict-append : (xs ys : List (HeldLock A)) → first_conflict overlap wanted (xs ++ ys) ≡ option_or (first_conflict overlap wanted xs) (first_conflict overlap wanted ys)
   first_conflict-append [] ys = refl
   first_conflict-append (x ∷ xs) ys = go (conflicts overlap wanted x) (first_conflict-append xs ys)
     where

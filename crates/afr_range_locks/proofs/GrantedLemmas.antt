@@ -65,6 +65,11 @@ module _ {A : Type 0} where
   granted-filter p (suc n) entries =
       ap₂ (λ (a b : List (HeldLock A)). a ++ b) (granted-filter p n entries) (granted_at-filter p n entries) ∙ sym (filter-append p (granted n entries) (granted_at n entries))
 
+  -- of no entry no lock
+  pub granted-none : (n : ℕ) (entries : List (Key × HeldLock A)) → entries ≡ [] → granted n entries ≡ []
+  granted-none zero entries none = refl
+  granted-none (suc n) entries none = rw (granted-none n entries none, none) refl
+
   -- a table stays one where some locks are taken out
   pub table_kept : (overlap : A → A → Bool) (at : A → Place) (next : ℕ) (p : HeldLock A → Bool) (entries : List (Key × HeldLock A)) → IsTable overlap at next entries → IsTable overlap at next (filter (λ e. p e.1) entries)
   table_kept overlap at next p entries t = record {

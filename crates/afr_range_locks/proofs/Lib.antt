@@ -3,6 +3,7 @@ mod ConflictLemmas
 mod EarlierLemmas
 mod GrantedLemmas
 mod KeyLemmas
+mod LateLemmas
 mod NumberLemmas
 mod OneLemmas
 mod RangeLemmas

@@ -3,11 +3,13 @@
 
 mod got;
 mod held;
+mod late;
 mod lockable;
+mod locked;
 mod ranges;
 mod table;
 
 pub use got::Got;
-pub use held::HeldLocks;
 pub use lockable::{Lockable, Place, Reach, Span};
+pub use locked::LockTable;
 pub use ranges::{ObjectRange, RangeLocks, ranges_share_a_number};

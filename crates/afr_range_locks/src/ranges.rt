@@ -5,8 +5,8 @@ ghost use Rattle.afr_lines.specs.Locks.{AreApart, IsInBoth, first_conflict, shar
 ghost use Rattle.afr_range_locks.specs.declared.got.Got.TheVariants as got;
 
 use crate::got::Got;
-use crate::held::HeldLocks;
 use crate::lockable::{Lockable, Place, Reach, Span};
+use crate::locked::LockTable;
 use afr_base::{ActorId, Gfid, NoMemory};
 use afr_lines::{Domain, HeldLock};
 use std::alloc::Global;
@@ -55,10 +55,10 @@ impl Lockable for ObjectRange {
 }
 
 /// The locks on ranges that are held, which contracts see as a list with the one that was granted first at its front.
-/// They are kept in the order of domain, object, start and grant.
+/// Those that were granted last are kept in a row, all others in the order of domain, object, start and grant.
 #[derive(Drop)]
 pub struct RangeLocks {
-    held: HeldLocks<ObjectRange>,
+    held: LockTable<ObjectRange>,
 }
 
 impl Model for RangeLocks {
@@ -76,13 +76,14 @@ impl RangeLocks {
         ensures { result ≡ [] }
     {
         RangeLocks {
-            held: HeldLocks::new(alloc),
+            held: LockTable::new(alloc),
         }
     }
 
     /// Takes the lock, unless another owner's is in the way. An owner may hold the same lock twice.
     /// O(log n + k) steps on n held locks, where k of that domain and object start below its end;
-    /// the others cost nothing. After 2^64 - 1 grants it wants memory.
+    /// the others cost nothing, but for sixteen at most that were granted last. After 2^64 - 1 grants it
+    /// wants memory.
     pub fn lock(
         &mut self,
         owner: ActorId,

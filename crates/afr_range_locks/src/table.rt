@@ -1,5 +1,5 @@
 //! The map of held locks, in the order of domain, object, start and grant.
-ghost use Rattle.std.specs.Prelude.{◌≡◌, ◌+◌, ◌<◌, ◌≤◌, ◌^◌, Some, None, if◌then◌else◌, true, length, not, IfOk, OnOk, OnErr};
+ghost use Rattle.std.specs.Prelude.{◌≡◌, [], ◌+◌, ◌<◌, ◌≤◌, ◌^◌, Some, None, if◌then◌else◌, true, length, not, IfOk, OnOk, OnErr};
 ghost use Rattle.std.specs.BTreeMap.{IsOrdered, insert_entry};
 ghost use Rattle.std.specs.List.{AllByRecursion, filter};
 ghost use Rattle.afr_lines.specs.Locks.{conflicts, first_conflict, is_lock, same_domain};
@@ -50,6 +50,14 @@ fn domain_number(domain: Domain) -> u8
         Domain::Work => 0,
         Domain::Heal => 1,
     }
+}
+
+/// Whether no lock is held.
+#[inline]
+pub(crate) fn holds_none<A: Lockable>(locks: &Locks<A>) -> bool
+    ensures { result ≡ true → locks.now.entries ≡ [] }
+{
+    locks.len() == 0
 }
 
 /// The owner of the first lock that is in the way, in O(log n + k) for k locks in reach.
@@ -325,7 +333,7 @@ fn first_at_place<A: Lockable>(
     None
 }
 
-fn conflicts<A: Lockable>(wanted: &HeldLock<A>, held: &HeldLock<A>) -> bool
+pub(crate) fn conflicts<A: Lockable>(wanted: &HeldLock<A>, held: &HeldLock<A>) -> bool
     ensures { result ≡ conflicts A.overlap wanted.now held.now }
 {
     held.owner.0 != wanted.owner.0
@@ -333,7 +341,7 @@ fn conflicts<A: Lockable>(wanted: &HeldLock<A>, held: &HeldLock<A>) -> bool
         && wanted.area.overlaps(&held.area)
 }
 
-fn is_lock<A: Lockable>(one: &HeldLock<A>, held: &HeldLock<A>) -> bool
+pub(crate) fn is_lock<A: Lockable>(one: &HeldLock<A>, held: &HeldLock<A>) -> bool
     ensures { result ≡ is_lock A.same one.now held.now }
 {
     one.owner.0 == held.owner.0

@@ -87,17 +87,46 @@ impl Server {
         ensures err { OnErr result (self.new ≡ self.old) }
     {
         if !live {
-            self.refuse(actor, first, Answer::NotConnected, given);
+            self.unreached(actor, first, given);
             return Ok(());
         }
         match self.faults.peek() {
             Some(Fault::Fail) => {
-                self.refuse(actor, first, Answer::Failed, given);
+                self.fail(actor, first, given);
                 Ok(())
             }
             Some(Fault::Lost) => self.lose(actor, first, request, load, given),
             None => self.answer(actor, first, request, load, given),
         }
+    }
+
+    /// There is no live session. It stands apart, as `fail` does, so that only such requests pay for a frame that holds an
+    /// answer.
+    #[inline(never)]
+    fn unreached(&mut self, actor: ActorId, first: bool, given: &mut Served)
+        requires known { actor.0 < 20 }
+        requires count { self.old.faults.requests < 2 ^ 32 - 1 }
+        requires room { first ≡ true → HasEpoch actor self.old }
+        ensures asked { given.new ≡ record { answer = Answer.NotConnected; took = false } }
+        ensures same { self.new ≡ record self.old { links = self.new.links; faults = counted self.old.faults } }
+        ensures started { self.new.links.started ≡ self.old.links.started }
+        ensures links { (x : ℕ) → link_of x self.new.links ≡ only actor.0 x (link_served first false self.old.links.started) (link_of x self.old.links) }
+    {
+        self.refuse(actor, first, Answer::NotConnected, given);
+    }
+
+    /// The plan lets the request fail.
+    #[inline(never)]
+    fn fail(&mut self, actor: ActorId, first: bool, given: &mut Served)
+        requires known { actor.0 < 20 }
+        requires count { self.old.faults.requests < 2 ^ 32 - 1 }
+        requires room { first ≡ true → HasEpoch actor self.old }
+        ensures asked { given.new ≡ record { answer = Answer.Failed; took = false } }
+        ensures same { self.new ≡ record self.old { links = self.new.links; faults = counted self.old.faults } }
+        ensures started { self.new.links.started ≡ self.old.links.started }
+        ensures links { (x : ℕ) → link_of x self.new.links ≡ only actor.0 x (link_served first false self.old.links.started) (link_of x self.old.links) }
+    {
+        self.refuse(actor, first, Answer::Failed, given);
     }
 
     /// The request isn't carried out.

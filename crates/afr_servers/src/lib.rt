@@ -4,6 +4,7 @@
 mod asking;
 mod epochs;
 mod events;
+mod exchange;
 mod laws;
 mod meeting;
 mod opening;
@@ -12,6 +13,7 @@ mod started;
 mod visit;
 
 pub use epochs::Epochs;
+pub use exchange::Exchange;
 pub use laws::servers_follow_their_log;
 pub use servers::Servers;
 pub use visit::Visit;

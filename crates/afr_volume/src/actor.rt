@@ -18,7 +18,7 @@ use afr_log::Log;
 use afr_object::Change;
 use afr_rule::{Candidate, ReadRule};
 use afr_server::Served;
-use afr_servers::{Servers, Visit};
+use afr_servers::{Exchange, Servers, Visit};
 
 #[derive(Drop)]
 pub(crate) struct Actor {
@@ -41,6 +41,7 @@ pub(crate) fn step<G: Fn(&[Candidate]) -> usize>(
     servers: &mut Servers,
     position: u32,
     log: &mut Log,
+    exchange: &mut Exchange,
     rule: &ReadRule<G>,
 ) -> Result<(), NoMemory>
     requires rule { IsRule G.Fn rule.now }
@@ -51,9 +52,18 @@ pub(crate) fn step<G: Fn(&[Candidate]) -> usize>(
     ensures ok { OnOk result (Adds (λ line. Stepped (HearsBy G.Fn rule.now) a position actor.old actor.new servers.old servers.new line) log.old.items log.new.items) }
     ensures err { OnErr result ((actor.new ≡ actor.old) × (servers.new ≡ servers.old) × (log.new.items ≡ log.old.items)) }
 {
-    let mut request = Request::Index;
-    match actor.work.asks(position, &mut request) {
-        Some(brick) => asks(actor, a, brick, &request, servers, position, log, rule),
+    match actor.work.asks(position, &mut exchange.request) {
+        Some(brick) => asks(
+            actor,
+            a,
+            brick,
+            &exchange.request,
+            servers,
+            position,
+            log,
+            &mut exchange.given,
+            rule,
+        ),
         None => writes(actor, a, servers, position, log),
     }
 }
@@ -159,6 +169,7 @@ fn asks<G: Fn(&[Candidate]) -> usize>(
     servers: &mut Servers,
     position: u32,
     log: &mut Log,
+    given: &mut Served,
     rule: &ReadRule<G>,
 ) -> Result<(), NoMemory>
     requires rule { IsRule G.Fn rule.now }
@@ -174,14 +185,8 @@ fn asks<G: Fn(&[Candidate]) -> usize>(
     let visit = &mut actor.visit;
     let work = &actor.work;
     // The answer is told and heard where it lies: it is large, and is not to be moved.
-    let mut given = Served {
-        answer: Answer::Done,
-        took: false,
-    };
-    visit.ask(a, brick, request, work.load(), servers, &mut given)?;
-    tells(
-        actor, met, a, brick, request, &mut given, position, log, rule,
-    );
+    visit.ask(a, brick, request, work.load(), servers, given)?;
+    tells(actor, met, a, brick, request, given, position, log, rule);
     Ok(())
 }
 

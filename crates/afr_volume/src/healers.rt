@@ -15,7 +15,7 @@ use afr_lines::Event;
 use afr_log::Log;
 use afr_plan::Plan;
 use afr_rule::{Candidate, SourceRule};
-use afr_servers::Servers;
+use afr_servers::{Exchange, Servers};
 use std::alloc::Global;
 
 /// A healer is this many places further down among the healers than its number.
@@ -77,6 +77,7 @@ pub(crate) fn step_healer<F: Fn(&[Candidate]) -> usize>(
     servers: &mut Servers,
     position: u32,
     log: &mut Log,
+    exchange: &mut Exchange,
     rule: &SourceRule<F>,
 ) -> Result<(), NoMemory>
     requires rule { IsRule F.Fn rule.now }
@@ -89,7 +90,7 @@ pub(crate) fn step_healer<F: Fn(&[Candidate]) -> usize>(
     ensures err { OnErr result ((healers.new.items ≡ healers.old.items) × (servers.new ≡ servers.old) × (log.new.items ≡ log.old.items)) }
 {
     let healer = &mut healers[a.0 as usize - HEALERS_FROM];
-    step_round(healer, a, servers, position, log, rule)?;
+    step_round(healer, a, servers, position, log, exchange, rule)?;
     Ok(())
 }
 

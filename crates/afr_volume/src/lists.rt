@@ -16,7 +16,7 @@ use afr_lines::{Line, Request, Told};
 use afr_log::Log;
 use afr_object::IndexList;
 use afr_rule::{Candidate, SourceRule};
-use afr_servers::Servers;
+use afr_servers::{Exchange, Servers};
 
 /// One line of a healer whose round has begun. Where it gave the crawler a list, that is kept.
 pub(crate) fn step_listed<F: Fn(&[Candidate]) -> usize>(
@@ -27,6 +27,7 @@ pub(crate) fn step_listed<F: Fn(&[Candidate]) -> usize>(
     position: u32,
     log: &mut Log,
     lists: &mut Vec<Option<IndexList>>,
+    exchange: &mut Exchange,
     rule: &SourceRule<F>,
 ) -> Result<(), NoMemory>
     requires rule { IsRule F.Fn rule.now }
@@ -40,7 +41,7 @@ pub(crate) fn step_listed<F: Fn(&[Candidate]) -> usize>(
     ensures err { OnErr result ((healers.new.items ≡ healers.old.items) × (servers.new ≡ servers.old) × (log.new.items ≡ log.old.items) × (lists.new.items ≡ lists.old.items)) }
 {
     let shown = coming_list(crawl, a, healers, servers, lists)?;
-    step_healer(a, healers, servers, position, log, rule)?;
+    step_healer(a, healers, servers, position, log, exchange, rule)?;
     note_list(shown, log, position as usize, lists);
     Ok(())
 }

@@ -18,7 +18,7 @@ use afr_lines::Event;
 use afr_log::Log;
 use afr_plan::{Command, Plan};
 use afr_rule::{Candidate, ReadRule};
-use afr_servers::Servers;
+use afr_servers::{Exchange, Servers};
 use std::alloc::Global;
 
 /// An actor that has work left has the machine of its present command.
@@ -75,6 +75,7 @@ pub(crate) fn step_actor<G: Fn(&[Candidate]) -> usize>(
     servers: &mut Servers,
     position: u32,
     log: &mut Log,
+    exchange: &mut Exchange,
     rule: &ReadRule<G>,
 ) -> Result<(), NoMemory>
     requires rule { IsRule G.Fn rule.now }
@@ -92,6 +93,7 @@ pub(crate) fn step_actor<G: Fn(&[Candidate]) -> usize>(
         servers,
         position,
         log,
+        exchange,
         rule,
     )
 }

@@ -48,7 +48,7 @@ use afr_object::{IndexList, List};
 use afr_plan::{Plan, Words};
 use afr_rule::{Candidate, ReadRule, Rules, SourceRule};
 use afr_server::Server;
-use afr_servers::Servers;
+use afr_servers::{Exchange, Servers};
 use std::alloc::Global;
 use std::marker::Model;
 
@@ -71,6 +71,8 @@ pub struct Volume {
     crawl: bool,
     /// What each round of a crawl was given, once it has asked.
     lists: Vec<Option<IndexList>>,
+    /// The request of the latest line, and what it was given.
+    exchange: Exchange,
 }
 
 impl Model for Volume {
@@ -103,6 +105,7 @@ impl Volume {
             made: 0,
             crawl: false,
             lists: Vec::new(alloc),
+            exchange: Exchange::new(),
         }
     }
 
@@ -127,6 +130,7 @@ impl Volume {
             made: 0,
             crawl: false,
             lists: Vec::new(self.alloc),
+            exchange: Exchange::new(),
         };
         Ok(())
     }
@@ -208,6 +212,7 @@ impl Volume {
             &mut self.servers,
             position,
             &mut self.log,
+            &mut self.exchange,
             rule,
         )?;
         let waits = self.log.waits_at(position as usize);
@@ -243,6 +248,7 @@ impl Volume {
             position,
             &mut self.log,
             &mut self.lists,
+            &mut self.exchange,
             rule,
         )?;
         let waits = self.log.waits_at(position as usize);

@@ -23,7 +23,7 @@ source_after-self-inside-requires-clause-found g c =
     heard_source c.a_heal_stays_sound.ensures.source (record { gfid = c.self.inside.gfid; kind = c.self.inside.kind; register = c.self.inside.register; source = c.self.inside.source; outcome = c.self.inside.outcome; contents = c.self.inside.contents }) c.args.brick.0 c.args.request.now c.args.answer.now c.args.at c.self.invariant
     (line_asks (record { gfid = c.self.inside.gfid; kind = c.self.inside.kind; register = c.self.inside.register; source = c.self.inside.source; outcome = c.self.inside.outcome; contents = c.self.inside.contents }) c.args.brick c.args.request.now (subst (λ (m : Healing). next_of m ≡ line.Ask c.args.brick c.args.request.now) (sym c.self.view_is) c.requires.asked))
     (heard_can (record { gfid = c.self.inside.gfid; kind = c.self.inside.kind; register = c.self.inside.register; source = c.self.inside.source; outcome = c.self.inside.outcome; contents = c.self.inside.contents }) c.args.self.now c.self.view_is c.args.answer.now c.requires.can c.args.brick.0 c.args.request.now (line_asks (record { gfid = c.self.inside.gfid; kind = c.self.inside.kind; register = c.self.inside.register; source = c.self.inside.source; outcome = c.self.inside.outcome; contents = c.self.inside.contents }) c.args.brick c.args.request.now (subst (λ (m : Healing). next_of m ≡ line.Ask c.args.brick c.args.request.now) (sym c.self.view_is) c.requires.asked)))
-    c.note_answer.new.register (c.note_answer.ensures.value ∙ ap (λ (told : Told). noted_ask c.self.inside.register c.args.at c.args.brick.0 c.args.request.now told) c.told_of-told.ensures) c.note_answer.ensures.shape
+    c.note_answer.new.register (c.note_answer.ensures.value ∙ ap (λ (told : Told). noted_ask c.self.inside.register c.args.at c.args.brick.0 c.args.request.now told) c.put_told.ensures) c.note_answer.ensures.shape
 
 pub keep-requires : goal.keep-requires
 keep-requires g c =
@@ -33,9 +33,9 @@ keep-requires g c =
 pub invariant_of-self : goal.invariant_of-self
 invariant_of-self g c =
     heard_stays g.F.Fn c.args.rule.now (record { gfid = c.self.inside.gfid; kind = c.self.inside.kind; register = c.self.inside.register; source = c.self.inside.source; outcome = c.self.inside.outcome; contents = c.self.inside.contents }) c.args.brick.0 c.args.request.now c.args.answer.now c.args.at c.note_answer.new.register c.source_after-self-inside.result c.outcome_after-self-inside.result c.keep.new.contents
-    (c.note_answer.ensures.value ∙ ap (λ (told : Told). noted_ask c.self.inside.register c.args.at c.args.brick.0 c.args.request.now told) c.told_of-told.ensures)
+    (c.note_answer.ensures.value ∙ ap (λ (told : Told). noted_ask c.self.inside.register c.args.at c.args.brick.0 c.args.request.now told) c.put_told.ensures)
     c.note_answer.ensures.shape c.source_after-self-inside.ensures.chosen c.source_after-self-inside.ensures.kept
-    (heard_outcome c.self.inside.register c.note_answer.new.register c.self.inside.source.0 c.self.inside.kind c.args.request.now (told_by c.args.answer.now) c.told_of-told.result c.self.inside.outcome c.outcome_after-self-inside.result _ c.present_part-part.result c.note_answer.ensures.shape c.present_part-part.ensures c.told_of-told.ensures refl c.outcome_after-self-inside.ensures)
+    (heard_outcome c.self.inside.register c.note_answer.new.register c.self.inside.source.0 c.self.inside.kind c.args.request.now (told_by c.args.answer.now) c.put_told.new.told c.self.inside.outcome c.outcome_after-self-inside.result _ c.present_part-part.result c.note_answer.ensures.shape c.present_part-part.ensures c.put_told.ensures refl c.outcome_after-self-inside.ensures)
     c.keep.ensures
     c.a_heal_stays_sound.ensures.stays c.self.invariant
     (line_asks (record { gfid = c.self.inside.gfid; kind = c.self.inside.kind; register = c.self.inside.register; source = c.self.inside.source; outcome = c.self.inside.outcome; contents = c.self.inside.contents }) c.args.brick c.args.request.now (subst (λ (m : Healing). next_of m ≡ line.Ask c.args.brick c.args.request.now) (sym c.self.view_is) c.requires.asked))
@@ -45,8 +45,8 @@ pub returns : goal.returns
 returns g c =
     subst (λ (m : Healing). IsFed g.F.Fn c.args.rule.now c.args.answer.now c.args.at m (record { gfid = c.self.inside.gfid; kind = c.self.inside.kind; register = c.note_answer.new.register; source = c.source_after-self-inside.result; outcome = c.outcome_after-self-inside.result; contents = c.keep.new.contents })) c.self.view_is
     (heard_fed g.F.Fn c.args.rule.now (record { gfid = c.self.inside.gfid; kind = c.self.inside.kind; register = c.self.inside.register; source = c.self.inside.source; outcome = c.self.inside.outcome; contents = c.self.inside.contents }) c.args.brick.0 c.args.request.now c.args.answer.now c.args.at c.note_answer.new.register c.source_after-self-inside.result c.outcome_after-self-inside.result c.keep.new.contents
-    (c.note_answer.ensures.value ∙ ap (λ (told : Told). noted_ask c.self.inside.register c.args.at c.args.brick.0 c.args.request.now told) c.told_of-told.ensures)
+    (c.note_answer.ensures.value ∙ ap (λ (told : Told). noted_ask c.self.inside.register c.args.at c.args.brick.0 c.args.request.now told) c.put_told.ensures)
     c.note_answer.ensures.shape c.source_after-self-inside.ensures.chosen c.source_after-self-inside.ensures.kept
-    (heard_outcome c.self.inside.register c.note_answer.new.register c.self.inside.source.0 c.self.inside.kind c.args.request.now (told_by c.args.answer.now) c.told_of-told.result c.self.inside.outcome c.outcome_after-self-inside.result _ c.present_part-part.result c.note_answer.ensures.shape c.present_part-part.ensures c.told_of-told.ensures refl c.outcome_after-self-inside.ensures)
+    (heard_outcome c.self.inside.register c.note_answer.new.register c.self.inside.source.0 c.self.inside.kind c.args.request.now (told_by c.args.answer.now) c.put_told.new.told c.self.inside.outcome c.outcome_after-self-inside.result _ c.present_part-part.result c.note_answer.ensures.shape c.present_part-part.ensures c.put_told.ensures refl c.outcome_after-self-inside.ensures)
     c.keep.ensures
     (line_asks (record { gfid = c.self.inside.gfid; kind = c.self.inside.kind; register = c.self.inside.register; source = c.self.inside.source; outcome = c.self.inside.outcome; contents = c.self.inside.contents }) c.args.brick c.args.request.now (subst (λ (m : Healing). next_of m ≡ line.Ask c.args.brick c.args.request.now) (sym c.self.view_is) c.requires.asked)))

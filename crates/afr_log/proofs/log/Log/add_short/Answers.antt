@@ -1,6 +1,15 @@
+-- A request without an entry of its own changes nothing before it is kept; with one the log has that line more.
 use Rattle.std.specs.Prelude.{length}
-use Rattle.afr_log.proofs.Entries.{there_push}
+use Rattle.std.proofs.Common.{arith}
 use Rattle.afr_log.proofs.log.Log.add_short.Goals as goal
 
 pub invariant_of-self : goal.invariant_of-self
-invariant_of-self c = rw c.push_entry.ensures.items (there_push (length c.self.inside.kept.items) c.self.inside.packed.items c.in-Some.entry c.self.invariant (c.pack.ensures.there c.in-Some.entry c.in-Some.is (length c.self.inside.kept.items)))
+invariant_of-self c = rw (c.pack.ensures.none c.if-is_none.ensures) c.self.invariant
+
+pub invariant_of-self-else-is_none : goal.invariant_of-self-else-is_none
+invariant_of-self-else-is_none c = c.pack.ensures.there c.if-is_none.ensures (length c.self.inside.kept.items) c.self.invariant
+
+pub returns-else-is_none : goal.returns-else-is_none
+returns-else-is_none c =
+    let added = c.pack.ensures.lines c.if-is_none.ensures c.self.inside.kept.items in
+    grind (arith, added, c.self.view_is)
