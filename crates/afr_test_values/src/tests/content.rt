@@ -39,24 +39,6 @@ fn each_call_changes_its_own_bytes(rt: HostRuntime) {
 }
 
 #[test]
-fn a_read_takes_what_there_is(rt: HostRuntime) {
-    let mut content = Content::new(rt.alloc());
-    assert!(rt; content.write_at(0, b"abcde").is_ok());
-    for (at, want) in [
-        (0, b"abc".as_slice()),
-        (1, b"bcd"),
-        (3, b"de-"),
-        (5, b"---"),
-        (9, b"---"),
-    ] {
-        let mut seen = [b'-'; 3];
-        let count = content.read(at, &mut seen);
-        assert_eq!(rt; seen.as_slice(), want, "at {at}");
-        assert!(rt; count == 3 || seen[count] == b'-', "at {at}");
-    }
-}
-
-#[test]
 fn the_last_byte_alone_has_the_last_page_alone(rt: HostRuntime) {
     let mut content = Content::new(rt.alloc());
     assert!(rt; content.write_at(1_048_575, b"z").is_ok());
@@ -74,19 +56,4 @@ fn the_last_byte_alone_has_the_last_page_alone(rt: HostRuntime) {
     content.cut(1_044_480);
     assert!(rt; !content.has_page(255));
     assert_eq!(rt; content.len(), 1_044_480);
-}
-
-#[test]
-fn a_write_over_a_border_stands_in_both_pages(rt: HostRuntime) {
-    let mut content = Content::new(rt.alloc());
-    assert!(rt; content.write_at(8_190, b"abcd").is_ok());
-    assert!(rt; content.copy_in(4_090, 8, b"xy").is_ok());
-    for number in 0u32..4 {
-        assert!(rt; content.has_page(number) == (number < 3), "page {number}");
-    }
-    let mut seen = [b'-'; 6];
-    assert_eq!(rt; content.read(8_189, &mut seen), 5);
-    assert_eq!(rt; seen.as_slice(), b"\0abcd-".as_slice());
-    assert_eq!(rt; content.read(4_089, &mut seen), 6);
-    assert_eq!(rt; seen.as_slice(), b"\0xy\0\0\0".as_slice());
 }
