@@ -209,39 +209,6 @@ fn an_attribute_is_carried_to_every_brick(rt: HostRuntime) {
     );
 }
 
-/// A directory in the root, on its way to every brick.
-fn directory_in_the_root(alloc: Global) -> Option<WorkMachine> {
-    let mut path = List::new(alloc);
-    path.push(NameId(7)).ok()?;
-    on_three(alloc, &Command::Mkdir { path })
-}
-
-/// The attempt began at line 10, which numbers the directory.
-fn carries_the_directory(work: &WorkMachine) -> bool {
-    matches!(
-        work.load(),
-        Load::Change(Change::Make {
-            dir: ROOT,
-            name: NameId(7),
-            gfid: Gfid(12),
-            what: What::Dir,
-        })
-    )
-}
-
-/// Whether its operation carried it, and what it answers where the name was free.
-fn made(alloc: Global) -> Option<(bool, Next)> {
-    let mut work = directory_in_the_root(alloc)?;
-    all_granted(&mut work);
-    all_seen(&mut work);
-    hears_one(&mut work, Answer::Entry(None));
-    begins(&mut work);
-    all_done(&mut work);
-    let carried = carries_the_directory(&work);
-    let next = finished(&mut work)?;
-    Some((carried, next))
-}
-
 fn the_file() -> Answer {
     Answer::Entry(Some(Entry {
         gfid: FILE,
