@@ -1,11 +1,8 @@
 //! A round over an index that shows one file, and rounds whose index shows none or is refused, line by line.
-use crate::round_tests::lines::{
-    asks_for_a_lock, asks_for_the_index, crawl_of, ends_failed, ends_well, ends_with_nothing,
-    finds_nothing, hears, hears_index, round_of, task_of,
-};
+use crate::round_tests::lines::{asks_for_a_lock, asks_for_the_index, crawl_of, ends_well, ends_with_nothing, finds_nothing, hears_index, round_of, task_of};
 use afr_base::Kind;
 use afr_lines::Answer;
-use afr_object::{List, Load};
+use afr_object::Load;
 use std::test::Fail;
 
 #[test]
@@ -24,20 +21,6 @@ fn a_file_has_its_attributes_healed_and_then_its_bytes(rt: HostRuntime) {
     }
     assert!(rt; ends_well(&machine));
     assert!(rt; !machine.can_hear(&Answer::Done));
-}
-
-#[test]
-fn a_round_over_an_empty_index_heals_nothing(rt: HostRuntime) {
-    let mut machine = round_of(rt.alloc());
-    hears(&mut machine, Answer::Index(List::new(rt.alloc())), 0);
-    assert!(rt; ends_well(&machine));
-}
-
-#[test]
-fn a_round_fails_where_its_index_is_refused(rt: HostRuntime) {
-    let mut machine = round_of(rt.alloc());
-    hears(&mut machine, Answer::NotConnected, 0);
-    assert!(rt; ends_failed(&machine));
 }
 
 #[test]
