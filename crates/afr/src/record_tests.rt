@@ -1,10 +1,8 @@
 //! Tests of runs that are recorded, and made again from their images.
-use crate::live_tests::{APART, TREE};
-use crate::tests::{PLAN, REPORT, SHORT};
-use afr_cli::{afr_live, afr_top};
+use crate::live_tests::{APART, TREE, live_into};
+use crate::tests::{PLAN, REPORT, SHORT, in_order};
 use afr_live::NoGate;
 use afr_report::report_text;
-use afr_rule::{ReadRule, Rules, SourceRule, shipped};
 use afr_text::{MemSink, MemSource};
 use afr_volume::Volume;
 use std::alloc::Global;
@@ -35,20 +33,7 @@ fn recorded<R: Threads + Wait + Alloc<A = Global> + Sync>(
     let mut source = source_of(alloc, plan.as_bytes())?;
     let mut sink = MemSink::new(alloc, 4096, Vec::new(alloc));
     let mut volume = Volume::empty(alloc);
-    let rules = Rules {
-        heal: SourceRule::new(shipped::longest),
-        read: ReadRule::new(shipped::first),
-    };
-    let status = afr_live(
-        rt,
-        alloc,
-        &words,
-        &mut source,
-        &mut sink,
-        &mut volume,
-        &rules,
-        &NoGate,
-    );
+    let status = live_into(rt, &words, &mut source, &mut sink, &mut volume, &NoGate);
     let Ok(report) = report_text(alloc, &volume) else {
         return Err(Fail::from("memory"));
     };
@@ -63,12 +48,7 @@ fn replayed(alloc: Global, image: &[u8]) -> Result<(u8, MemSink), Fail> {
     ]?;
     let mut source = source_of(alloc, image)?;
     let mut sink = MemSink::new(alloc, 4096, Vec::new(alloc));
-    let mut volume = Volume::empty(alloc);
-    let rules = Rules {
-        heal: SourceRule::new(shipped::longest),
-        read: ReadRule::new(shipped::first),
-    };
-    let status = afr_top(alloc, &words, &mut source, &mut sink, &mut volume, &rules);
+    let status = in_order(alloc, &words, &mut source, &mut sink);
     Ok((status, sink))
 }
 
