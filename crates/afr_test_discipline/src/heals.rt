@@ -1,7 +1,10 @@
 //! A heal of attributes, move by move, with moves out of turn.
 ghost use Rattle.std.specs.Prelude.{◌≡◌, ◌≤◌};
 
-use crate::lines::{FILE, all_attrs, all_bytes, asks, asks_all, may_ask, may_end, puts, raises, sees_behind, settles, unlocks, untouched};
+use crate::lines::{
+    FILE, all_attrs, all_bytes, asks, asks_all, may_ask, may_end, puts, raises, sees_behind,
+    settles, unlocks, untouched,
+};
 use afr_base::Kind;
 use afr_discipline::Register;
 use afr_lines::{Domain, Request, Told};

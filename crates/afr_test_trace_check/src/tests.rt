@@ -83,7 +83,11 @@ fn found(alloc: Global, eighth: &str, other: &str) -> Result<Finding, Fail> {
 /// Two lines, and what is found of the trace with them: it is right; an event comes early; a brick that is up loses no
 /// request; what a command answers isn't judged; a read begins no write; a text that ends early breaks its form.
 const CASES: [(&str, &str, Finding); 6] = [
-    ("7 c1 b0 look f1 seen\n", "24 c2 end ok 68656c6c6f\n", Finding::Yes(35)),
+    (
+        "7 c1 b0 look f1 seen\n",
+        "24 c2 end ok 68656c6c6f\n",
+        Finding::Yes(35),
+    ),
     (
         "7 event kill c1\n",
         "24 c2 end ok 68656c6c6f\n",
@@ -100,7 +104,11 @@ const CASES: [(&str, &str, Finding); 6] = [
             rule: Rule::Honest,
         },
     ),
-    ("7 c1 b0 look f1 seen\n", "24 c2 end ok -\n", Finding::Yes(35)),
+    (
+        "7 c1 b0 look f1 seen\n",
+        "24 c2 end ok -\n",
+        Finding::Yes(35),
+    ),
     (
         "7 c1 b0 look f1 seen\n",
         "24 c2 begin write f1 0 5\n",

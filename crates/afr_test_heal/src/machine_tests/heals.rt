@@ -1,5 +1,8 @@
 //! Heals on three bricks, of which the last missed a change, line by line.
-use crate::machine_tests::lines::{OBJECT, asks, carries_attrs, heal_of, hears, hears_done, names_carried, reply_of, sees_behind, unlocks};
+use crate::machine_tests::lines::{
+    OBJECT, asks, carries_attrs, heal_of, hears, hears_done, names_carried, reply_of, sees_behind,
+    unlocks,
+};
 use afr_base::{BrickId, Gfid, Kind, NameId, NoMemory, What};
 use afr_heal_machine::{HealMachine, HealOutcome};
 use afr_lines::{Answer, HealReply, Request};

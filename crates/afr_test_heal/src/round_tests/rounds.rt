@@ -1,5 +1,8 @@
 //! A round over an index that shows one file, and rounds whose index shows none or is refused, line by line.
-use crate::round_tests::lines::{asks_for_a_lock, asks_for_the_index, crawl_of, ends_well, ends_with_nothing, finds_nothing, hears_index, round_of, task_of};
+use crate::round_tests::lines::{
+    asks_for_a_lock, asks_for_the_index, crawl_of, ends_well, ends_with_nothing, finds_nothing,
+    hears_index, round_of, task_of,
+};
 use afr_base::Kind;
 use afr_lines::Answer;
 use afr_object::Load;
