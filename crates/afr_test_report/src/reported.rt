@@ -1,4 +1,4 @@
-//! The report and the summary of a plan and a log, over servers whose bricks are as they were at first.
+//! The report of a plan and a log, over servers whose bricks are as they were at first.
 ghost use Rattle.std.specs.Prelude.{◌≡◌, true, reverse};
 ghost use Rattle.afr_report.specs.BrickLines.{AreBrickLines, IsBrickEvent, IsBrickLine};
 
@@ -8,7 +8,7 @@ use afr_faults::FaultPlan;
 use afr_lines::{Event, Line};
 use afr_log::Log;
 use afr_plan::Plan;
-use afr_report::{print_report, print_summary, started};
+use afr_report::{print_report, started};
 use afr_server::Server;
 use std::alloc::Global;
 
@@ -25,23 +25,6 @@ pub fn reports(alloc: Global, plan: &Plan, lines: Vec<Line>, text: &str) -> Resu
     let started = started(plan.shape.n, &log);
     let report = print_report(alloc, plan, &log, started, &servers)?;
     Ok(report.as_str() == text)
-}
-
-/// Whether the summary of load 7 has this text.
-pub fn summarizes(
-    alloc: Global,
-    plan: &Plan,
-    lines: Vec<Line>,
-    text: &str,
-) -> Result<bool, NoMemory> {
-    if plan.shape.n > 5 || !has_brick_lines(&lines) {
-        return Ok(false);
-    }
-    let servers = new_servers(alloc, plan)?;
-    let log = Log::of(alloc, lines)?;
-    let started = started(plan.shape.n, &log);
-    let summary = print_summary(alloc, 7, plan, &log, started, &servers)?;
-    Ok(summary.as_str() == text)
 }
 
 /// A server for each brick, with the root alone. No log here changes more.
