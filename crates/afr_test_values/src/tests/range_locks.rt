@@ -53,18 +53,3 @@ fn the_first_in_the_way_is_named(rt: HostRuntime) {
     let gone = gives_way(&mut locks);
     assert!(rt; gone);
 }
-
-/// An owner's equal locks are released all at once, and the first of the others is named.
-#[test]
-fn equal_locks_go_together(rt: HostRuntime) {
-    let mut locks = RangeLocks::new(rt.alloc());
-    let first = gets(&mut locks, 2, Domain::Work, (7, 9), Got::Granted);
-    let twice = gets(&mut locks, 1, Domain::Work, (3, 5), Got::Granted)
-        && gets(&mut locks, 1, Domain::Work, (3, 5), Got::Granted);
-    assert!(rt; first && twice);
-    let later = gets(&mut locks, 3, Domain::Work, (0, 9), Got::Held(ActorId(2)));
-    assert!(rt; later);
-    locks.unlock(ActorId(1), Domain::Work, FILE, 3, 5);
-    let free = gets(&mut locks, 3, Domain::Work, (0, 7), Got::Granted);
-    assert!(rt; free);
-}
