@@ -6,7 +6,6 @@ use afr_lines::{Request, Told};
 fn a_cut_that_all_bricks_carry_out_is_acknowledged(rt: HostRuntime) {
     let mut transaction = cuts();
     begins(&mut transaction);
-    assert!(rt; matches!(asks(rt.alloc(), &transaction, 0), Some(Request::Pre { .. })));
     tells_three(&mut transaction, [Told::Done; 3]);
     assert!(rt;
         matches!(
@@ -15,19 +14,7 @@ fn a_cut_that_all_bricks_carry_out_is_acknowledged(rt: HostRuntime) {
         )
     );
     tells_three(&mut transaction, [Told::Done; 3]);
-    assert!(rt;
-        matches!(
-            asks(rt.alloc(), &transaction, 0),
-            Some(Request::Post { attempt: 10, .. })
-        )
-    );
     tells_three(&mut transaction, [Told::Done; 3]);
-    assert!(rt;
-        matches!(
-            asks(rt.alloc(), &transaction, 0),
-            Some(Request::Unlock { .. })
-        )
-    );
     tells_three(&mut transaction, [Told::Done; 3]);
     assert!(rt; transaction.is_over() && is_acknowledged(&transaction));
 }
