@@ -35,14 +35,8 @@ fn a_crawler_lists_and_heals_nothing(rt: HostRuntime) {
 }
 
 #[test]
-fn a_task_heals_one_file_and_asks_for_no_index(rt: HostRuntime) -> Result<(), Fail> {
-    let mut machine = task_of(rt.alloc()).ok().ok_or("memory")?;
-    for (kind, from) in [(Kind::Attrs, 1), (Kind::Bytes, 18)] {
-        assert!(rt; machine.ready().is_ok());
-        assert!(rt; asks_for_a_lock(&machine));
-        finds_nothing(&mut machine, from);
-        assert!(rt; ends_with_nothing(&mut machine, kind));
-    }
-    assert!(rt; ends_well(&machine));
+fn a_task_asks_for_no_index(rt: HostRuntime) -> Result<(), Fail> {
+    let machine = task_of(rt.alloc()).ok().ok_or("memory")?;
+    assert!(rt; asks_for_a_lock(&machine));
     Ok(())
 }
