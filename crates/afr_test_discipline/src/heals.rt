@@ -5,8 +5,8 @@ use crate::lines::{
     FILE, all_attrs, all_bytes, asks, asks_all, may_ask, may_end, puts, raises, sees_behind,
     settles, unlocks, untouched,
 };
-use afr_base::Kind;
-use afr_discipline::Register;
+use afr_base::{BrickId, BrickSet, Kind};
+use afr_discipline::{Register, Step, asked_at};
 use afr_lines::{Domain, Request, Told};
 
 /// A heal that has read at brick 0 and raised the numbers of the others; tells whether each of its moves was allowed.
@@ -33,6 +33,8 @@ fn a_heal_mends_with_its_read_and_settles_what_is_owed(rt: HostRuntime) {
     assert!(rt; !may_ask(&register, 0, &settles(1, 0)));
     assert!(rt; asks(&mut register, 1, &puts(10), Told::Done, 13));
     assert!(rt; asks(&mut register, 2, &puts(10), Told::Done, 14));
+    let others = BrickSet::all(3).without(BrickId(0));
+    assert!(rt; asked_at(&register, Step::Mends) == others);
     assert!(rt; may_ask(&register, 0, &settles(1, 0)));
     assert!(rt; !may_ask(&register, 0, &settles(1, 1)));
     assert!(rt; !may_ask(&register, 0, &settles(0, 0)));
