@@ -274,15 +274,6 @@ fn words_and_plans_have_their_texts(rt: HostRuntime) -> Result<(), Fail> {
 }
 
 #[test]
-fn a_failed_write_leaves_a_front(rt: HostRuntime) -> Result<(), Fail> {
-    for plan in [PLAN, SHORT] {
-        let holds = ends(rt.alloc(), &["run"], plan, (0, 3), (5, "afr replic"))?;
-        assert!(rt; holds, "{plan}");
-    }
-    Ok(())
-}
-
-#[test]
 fn each_fault_has_its_status(rt: HostRuntime) -> Result<(), Fail> {
     let reads = PLAN.len().div_ceil(7) as u32 + 1;
     for read in 1..=reads {
