@@ -1,10 +1,9 @@
 //! Tests of hostile use: plans that are refused, and sources and sinks that fail, for the run in the stated order
 //! and for the one by threads.
-use afr_cli::{afr_live, afr_top};
+use crate::live_tests::by_threads;
+use crate::tests::{PLAN, REPORT, in_order};
 use afr_live::NoGate;
-use afr_rule::{ReadRule, Rules, SourceRule, shipped};
 use afr_text::{MemSink, MemSource};
-use afr_volume::Volume;
 use std::alloc::Global;
 use std::sync::Wait;
 use std::test::Fail;
@@ -107,48 +106,6 @@ const TOO_MANY: [(&str, usize, &str); 2] = [
 /// What stands before these commands.
 const HEAD: &str = "afr 1\nvolume replica\nfiles 0\nturns 100000\nclient 1\n";
 
-/// A write and a read of five bytes.
-const PLAN: &str =
-    "afr 1\nvolume replica\nfiles 1\nturns 100000\nclient 1\nwrite /f1 0 \"hello\"\nread /f1 0 5\nend\n";
-
-/// Its report.
-const REPORT: &str =
-    "afr replica 3\nlines 33\nc1 2 of 2\n1 write ok\n2 read ok 68656c6c6f\nreach 0 1 2\nobjects 0\nsplit-brain 0\n";
-
-/// The status of a run in the stated order, over a new volume.
-fn in_order(alloc: Global, words: &[String], source: &mut MemSource, sink: &mut MemSink) -> u8 {
-    let mut volume = Volume::empty(alloc);
-    let rules = Rules {
-        heal: SourceRule::new(shipped::longest),
-        read: ReadRule::new(shipped::first),
-    };
-    afr_top(alloc, words, source, sink, &mut volume, &rules)
-}
-
-/// The status of a run by threads, over a new volume.
-fn by_threads<R: Threads + Wait + Alloc<A = Global> + Sync>(
-    rt: &R,
-    words: &[String],
-    source: &mut MemSource,
-    sink: &mut MemSink,
-) -> u8 {
-    let mut volume = Volume::empty(rt.alloc());
-    let rules = Rules {
-        heal: SourceRule::new(shipped::longest),
-        read: ReadRule::new(shipped::first),
-    };
-    afr_live(
-        rt,
-        rt.alloc(),
-        words,
-        source,
-        sink,
-        &mut volume,
-        &rules,
-        &NoGate,
-    )
-}
-
 /// The status and the sink after the call. The read and the write of these numbers fail; the first is 1.
 fn called<R: Threads + Wait + Alloc<A = Global> + Sync>(
     rt: &R,
@@ -167,7 +124,7 @@ fn called<R: Threads + Wait + Alloc<A = Global> + Sync>(
     let mut source = MemSource::new(bytes, 7, vec![in alloc; fails.0]?);
     let mut sink = MemSink::new(alloc, 5, vec![in alloc; fails.1]?);
     let status = if word == "live" {
-        by_threads(rt, &words, &mut source, &mut sink)
+        by_threads(rt, &words, &mut source, &mut sink, &NoGate)
     } else {
         in_order(alloc, &words, &mut source, &mut sink)
     };

@@ -1,5 +1,6 @@
 //! Tests of a run by threads.
-ghost use Rattle.afr_rule.specs.Choosing.{IsRule};
+ghost use Rattle.std.specs.Prelude.{◌≡◌};
+ghost use Rattle.afr_volume.specs.State.{no_volume};
 
 use afr_base::ActorId;
 use afr_cli::afr_live;
@@ -103,6 +104,36 @@ impl<R: Wait> Gate for Meeting<'_, R> {
     }
 }
 
+/// The status of a call by threads over this volume, by the rules that the program has.
+pub(crate) fn live_into<R: Threads + Wait + Alloc<A = Global> + Sync, H: Gate + Sync>(
+    rt: &R,
+    words: &[String],
+    source: &mut MemSource,
+    sink: &mut MemSink,
+    volume: &mut Volume,
+    gate: &H,
+) -> u8
+    requires { volume.old ≡ no_volume }
+{
+    let rules = Rules {
+        heal: SourceRule::new(shipped::longest),
+        read: ReadRule::new(shipped::first),
+    };
+    afr_live(rt, rt.alloc(), words, source, sink, volume, &rules, gate)
+}
+
+/// The same over a new volume.
+pub(crate) fn by_threads<R: Threads + Wait + Alloc<A = Global> + Sync, H: Gate + Sync>(
+    rt: &R,
+    words: &[String],
+    source: &mut MemSource,
+    sink: &mut MemSink,
+    gate: &H,
+) -> u8 {
+    let mut volume = Volume::empty(rt.alloc());
+    live_into(rt, words, source, sink, &mut volume, gate)
+}
+
 /// The status and the text of a run of the plan by threads, or of a crawl, by the word.
 pub(crate) fn live_run<R: Threads + Wait + Alloc<A = Global> + Sync, H: Gate + Sync>(
     rt: &R,
@@ -116,21 +147,7 @@ pub(crate) fn live_run<R: Threads + Wait + Alloc<A = Global> + Sync, H: Gate + S
     bytes.extend_from_slice(plan.as_bytes())?;
     let mut source = MemSource::new(bytes, 4096, Vec::new(alloc));
     let mut sink = MemSink::new(alloc, 4096, Vec::new(alloc));
-    let mut volume = Volume::empty(alloc);
-    let rules = Rules {
-        heal: SourceRule::new(shipped::longest),
-        read: ReadRule::new(shipped::first),
-    };
-    let status = afr_live(
-        rt,
-        alloc,
-        &words,
-        &mut source,
-        &mut sink,
-        &mut volume,
-        &rules,
-        gate,
-    );
+    let status = by_threads(rt, &words, &mut source, &mut sink, gate);
     Ok((status, sink))
 }
 

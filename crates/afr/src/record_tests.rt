@@ -1,10 +1,8 @@
 //! Tests of runs that are recorded, and made again from their images.
-use crate::live_tests::{APART, TREE};
-use crate::tests::{PLAN, REPORT, SHORT};
-use afr_cli::{afr_live, afr_top};
+use crate::live_tests::{APART, TREE, live_into};
+use crate::tests::{PLAN, REPORT, SHORT, in_order};
 use afr_live::NoGate;
 use afr_report::report_text;
-use afr_rule::{ReadRule, Rules, SourceRule, shipped};
 use afr_text::{MemSink, MemSource};
 use afr_volume::Volume;
 use std::alloc::Global;
@@ -35,20 +33,7 @@ fn recorded<R: Threads + Wait + Alloc<A = Global> + Sync>(
     let mut source = source_of(alloc, plan.as_bytes())?;
     let mut sink = MemSink::new(alloc, 4096, Vec::new(alloc));
     let mut volume = Volume::empty(alloc);
-    let rules = Rules {
-        heal: SourceRule::new(shipped::longest),
-        read: ReadRule::new(shipped::first),
-    };
-    let status = afr_live(
-        rt,
-        alloc,
-        &words,
-        &mut source,
-        &mut sink,
-        &mut volume,
-        &rules,
-        &NoGate,
-    );
+    let status = live_into(rt, &words, &mut source, &mut sink, &mut volume, &NoGate);
     let Ok(report) = report_text(alloc, &volume) else {
         return Err(Fail::from("memory"));
     };
@@ -63,12 +48,7 @@ fn replayed(alloc: Global, image: &[u8]) -> Result<(u8, MemSink), Fail> {
     ]?;
     let mut source = source_of(alloc, image)?;
     let mut sink = MemSink::new(alloc, 4096, Vec::new(alloc));
-    let mut volume = Volume::empty(alloc);
-    let rules = Rules {
-        heal: SourceRule::new(shipped::longest),
-        read: ReadRule::new(shipped::first),
-    };
-    let status = afr_top(alloc, &words, &mut source, &mut sink, &mut volume, &rules);
+    let status = in_order(alloc, &words, &mut source, &mut sink);
     Ok((status, sink))
 }
 
@@ -100,26 +80,45 @@ fn comes_again<R: Threads + Wait + Alloc<A = Global> + Sync>(
     Ok(status == 0 && replays_to(rt.alloc(), image.taken(), 0, report.as_str())?)
 }
 
+/// Whether these are the bytes of the image of a write and a read.
+fn is_image(image: &[u8]) -> bool {
+    image.len() == 203
+        && has_at(image, 0, b"AFRIMG\x00\x01\x00\x00\x00\x58afr 1\n")
+        && has_at(image, FIRST - 4, &[0, 0, 0, 33, 0x01, 0x00, 0x02])
+        && has_at(image, FIRST + 30, &[0x01, 0xff, 0x09])
+        && has_at(image, FIRST + 69, &[0x01, 0xff, 0x10])
+}
+
+/// Whether a run of the plan by threads ends with this status, and its image is so long and gives the report when it is made again.
+fn is_recorded<R: Threads + Wait + Alloc<A = Global> + Sync>(
+    rt: &R,
+    plan: &str,
+    want: u8,
+    len: usize,
+) -> Result<bool, Fail> {
+    let (status, image, _) = recorded(rt, plan)?;
+    let image = image.taken();
+    Ok(status == want && image.len() == len && replays_to(rt.alloc(), image, 0, REPORT)?)
+}
+
+fn has_its_image<R: Threads + Wait + Alloc<A = Global> + Sync>(rt: &R) -> Result<bool, Fail> {
+    let (_, image, _) = recorded(rt, PLAN)?;
+    Ok(is_image(image.taken()))
+}
+
 #[test]
 fn a_write_and_a_read_are_recorded(rt: HostRuntime) -> Result<(), Fail> {
-    let (status, image, _) = recorded(&rt, PLAN)?;
-    let image = image.taken();
-    assert_eq!(rt; status, 0);
-    assert_eq!(rt; image.len(), 203);
-    assert!(rt; has_at(image, 0, b"AFRIMG\x00\x01\x00\x00\x00\x58afr 1\n"));
-    assert!(rt; has_at(image, FIRST - 4, &[0, 0, 0, 33, 0x01, 0x00, 0x02]));
-    assert!(rt; has_at(image, FIRST + 30, &[0x01, 0xff, 0x09]));
-    assert!(rt; has_at(image, FIRST + 69, &[0x01, 0xff, 0x10]));
-    assert!(rt; replays_to(rt.alloc(), image, 0, REPORT)?);
+    let recorded = is_recorded(&rt, PLAN, 0, 203)?;
+    assert!(rt; recorded);
+    let image = has_its_image(&rt)?;
+    assert!(rt; image);
     Ok(())
 }
 
 #[test]
 fn a_run_that_was_cut_short_goes_on(rt: HostRuntime) -> Result<(), Fail> {
-    let (status, image, _) = recorded(&rt, SHORT)?;
-    assert_eq!(rt; status, 7);
-    assert_eq!(rt; image.taken().len(), 130);
-    assert!(rt; replays_to(rt.alloc(), image.taken(), 0, REPORT)?);
+    let holds = is_recorded(&rt, SHORT, 7, 130)?;
+    assert!(rt; holds);
     Ok(())
 }
 

@@ -180,34 +180,70 @@ const CASES: [(&[&str], &str, u8, &str); 41] = [
     ),
 ];
 
-/// The status, and the sink after the call. The read and the write of these numbers fail; the first is 1.
-fn called(
+/// The status, and the sink after the call by these rules. The read and the write of these numbers fail; the first is 1.
+fn called_by<F: Fn(&[Candidate]) -> usize, G: Fn(&[Candidate]) -> usize>(
     alloc: Global,
     words: &[&str],
     plan: &str,
-    read: u32,
-    write: u32,
-) -> Result<(u8, MemSink), Fail> {
+    numbers: (u32, u32),
+    rules: &Rules<F, G>,
+) -> Result<(u8, MemSink), Fail>
+    requires heal { IsRule F.Fn rules.now.heal }
+    requires read { IsRule G.Fn rules.now.read }
+{
     let mut given = Vec::new(alloc);
     for word in words {
         given.push(String::from_str(alloc, word)?)?;
     }
     let mut bytes = Vec::new(alloc);
     bytes.extend_from_slice(plan.as_bytes())?;
-    let mut source = MemSource::new(bytes, 7, vec![in alloc; read]?);
-    let mut sink = MemSink::new(alloc, 5, vec![in alloc; write]?);
-    let status = called_with(alloc, given.as_slice(), &mut source, &mut sink);
+    let mut source = MemSource::new(bytes, 7, vec![in alloc; numbers.0]?);
+    let mut sink = MemSink::new(alloc, 5, vec![in alloc; numbers.1]?);
+    let status = called_with(alloc, given.as_slice(), &mut source, &mut sink, rules);
     Ok((status, sink))
 }
 
 /// The status of a call over a new volume.
-fn called_with(alloc: Global, words: &[String], source: &mut MemSource, sink: &mut MemSink) -> u8 {
+fn called_with<F: Fn(&[Candidate]) -> usize, G: Fn(&[Candidate]) -> usize>(
+    alloc: Global,
+    words: &[String],
+    source: &mut MemSource,
+    sink: &mut MemSink,
+    rules: &Rules<F, G>,
+) -> u8
+    requires heal { IsRule F.Fn rules.now.heal }
+    requires read { IsRule G.Fn rules.now.read }
+{
     let mut volume = Volume::empty(alloc);
+    afr_top(alloc, words, source, sink, &mut volume, rules)
+}
+
+/// The same by the rules that the program has.
+pub(crate) fn in_order(
+    alloc: Global,
+    words: &[String],
+    source: &mut MemSource,
+    sink: &mut MemSink,
+) -> u8 {
     let rules = Rules {
         heal: SourceRule::new(shipped::longest),
         read: ReadRule::new(shipped::first),
     };
-    afr_top(alloc, words, source, sink, &mut volume, &rules)
+    called_with(alloc, words, source, sink, &rules)
+}
+
+/// The status, and the sink after the call, by the rules that the program has.
+fn called(
+    alloc: Global,
+    words: &[&str],
+    plan: &str,
+    numbers: (u32, u32),
+) -> Result<(u8, MemSink), Fail> {
+    let rules = Rules {
+        heal: SourceRule::new(shipped::longest),
+        read: ReadRule::new(shipped::first),
+    };
+    called_by(alloc, words, plan, numbers, &rules)
 }
 
 /// Whether the call has this status and text.
@@ -218,13 +254,13 @@ fn ends(
     numbers: (u32, u32),
     want: (u8, &str),
 ) -> Result<bool, Fail> {
-    let (status, sink) = called(alloc, words, plan, numbers.0, numbers.1)?;
+    let (status, sink) = called(alloc, words, plan, numbers)?;
     Ok(status == want.0 && sink.taken() == want.1.as_bytes())
 }
 
 /// Whether a run of the plan whose read or write fails has this status, and a front of the report so long.
 fn stops(alloc: Global, read: u32, write: u32, want: u8, len: usize) -> Result<bool, Fail> {
-    let (status, sink) = called(alloc, &["run"], PLAN, read, write)?;
+    let (status, sink) = called(alloc, &["run"], PLAN, (read, write))?;
     Ok(status == want && sink.taken().len() == len && REPORT.as_bytes().starts_with(sink.taken()))
 }
 
@@ -232,15 +268,6 @@ fn stops(alloc: Global, read: u32, write: u32, want: u8, len: usize) -> Result<b
 fn words_and_plans_have_their_texts(rt: HostRuntime) -> Result<(), Fail> {
     for (words, plan, want, text) in CASES {
         let holds = ends(rt.alloc(), words, plan, (0, 0), (want, text))?;
-        assert!(rt; holds, "{plan}");
-    }
-    Ok(())
-}
-
-#[test]
-fn a_failed_write_leaves_a_front(rt: HostRuntime) -> Result<(), Fail> {
-    for plan in [PLAN, SHORT] {
-        let holds = ends(rt.alloc(), &["run"], plan, (0, 3), (5, "afr replic"))?;
         assert!(rt; holds, "{plan}");
     }
     Ok(())
@@ -295,53 +322,62 @@ fn last(from: &[Candidate]) -> usize
     from.len() - 1
 }
 
-/// The text of a run by these two rules, where all its work was done.
-fn run_by<F: Fn(&[Candidate]) -> usize + Drop, G: Fn(&[Candidate]) -> usize + Drop>(
+/// Whether a run by these two rules writes this text, where all its work was done.
+fn writes_by<F: Fn(&[Candidate]) -> usize + Drop, G: Fn(&[Candidate]) -> usize + Drop>(
     alloc: Global,
     plan: &str,
     heal: F,
     read: G,
-) -> Result<MemSink, Fail>
+    text: &str,
+) -> Result<bool, Fail>
     requires heal { IsRule F.Fn heal }
     requires read { IsRule G.Fn read }
 {
-    let words = vec![in alloc; String::from_str(alloc, "run")?]?;
-    let mut bytes = Vec::new(alloc);
-    bytes.extend_from_slice(plan.as_bytes())?;
-    let mut source = MemSource::new(bytes, 4096, Vec::new(alloc));
-    let mut sink = MemSink::new(alloc, 4096, Vec::new(alloc));
-    let mut volume = Volume::empty(alloc);
     let rules = Rules {
         heal: SourceRule::new(heal),
         read: ReadRule::new(read),
     };
-    let status = afr_top(alloc, &words, &mut source, &mut sink, &mut volume, &rules);
+    let (status, sink) = called_by(alloc, &["run"], plan, (0, 0), &rules)?;
     if status != 0 {
         return Err(Fail::from("status"));
     }
-    Ok(sink)
+    Ok(sink.taken() == text.as_bytes())
 }
+
+/// What is written of the uneven write, where the heal takes the last copy.
+const UNEVEN_REPORT: &str =
+    "afr replica 3\nlines 74\nc1 1 of 1\n1 write failed\nh1 1 of 1\n1 round ok\ndata 00000000-0000-0001-0000-000000000001 settled\nreach 0 1 2\nobjects 0\nsplit-brain 0\n";
+
+/// What is written of the torn write, where the reads take the last copy.
+const TORN_REPORT: &str =
+    "afr replica 3\nlines 35\nc1 0 of 1 dead\nc2 2 of 2\n1 read ok -\n2 read ok -\nreach 1 2\nobjects 1\nobject 00000000-0000-0001-0000-000000000001\ndata good 1 2\nb1 trusted.afr.dirty=0x000000010000000000000000\nb2 trusted.afr.dirty=0x000000010000000000000000\nsplit-brain 0\n";
 
 #[test]
 fn a_heal_takes_the_source_that_the_rule_answers(rt: HostRuntime) -> Result<(), Fail> {
-    let by_last = run_by(rt.alloc(), UNEVEN, last, shipped::first)?;
-    assert_eq!(rt;
-        by_last.taken(),
-        b"afr replica 3\nlines 74\nc1 1 of 1\n1 write failed\nh1 1 of 1\n1 round ok\ndata 00000000-0000-0001-0000-000000000001 settled\nreach 0 1 2\nobjects 0\nsplit-brain 0\n".as_slice()
-    );
-    let by_longest = run_by(rt.alloc(), UNEVEN, shipped::longest, shipped::first)?;
-    assert!(rt; by_longest.taken() != by_last.taken());
+    let by_last = writes_by(rt.alloc(), UNEVEN, last, shipped::first, UNEVEN_REPORT)?;
+    assert!(rt; by_last);
+    let by_longest = writes_by(
+        rt.alloc(),
+        UNEVEN,
+        shipped::longest,
+        shipped::first,
+        UNEVEN_REPORT,
+    )?;
+    assert!(rt; !by_longest);
     Ok(())
 }
 
 #[test]
 fn a_read_asks_the_copy_that_the_rule_answers(rt: HostRuntime) -> Result<(), Fail> {
-    let by_last = run_by(rt.alloc(), TORN, shipped::longest, last)?;
-    assert_eq!(rt;
-        by_last.taken(),
-        b"afr replica 3\nlines 35\nc1 0 of 1 dead\nc2 2 of 2\n1 read ok -\n2 read ok -\nreach 1 2\nobjects 1\nobject 00000000-0000-0001-0000-000000000001\ndata good 1 2\nb1 trusted.afr.dirty=0x000000010000000000000000\nb2 trusted.afr.dirty=0x000000010000000000000000\nsplit-brain 0\n".as_slice()
-    );
-    let by_first = run_by(rt.alloc(), TORN, shipped::longest, shipped::first)?;
-    assert!(rt; by_first.taken() != by_last.taken());
+    let by_last = writes_by(rt.alloc(), TORN, shipped::longest, last, TORN_REPORT)?;
+    assert!(rt; by_last);
+    let by_first = writes_by(
+        rt.alloc(),
+        TORN,
+        shipped::longest,
+        shipped::first,
+        TORN_REPORT,
+    )?;
+    assert!(rt; !by_first);
     Ok(())
 }

@@ -3,7 +3,7 @@ ghost use Rattle.std.specs.Prelude.{◌<◌, length};
 ghost use Rattle.afr_rule.specs.Choosing.{IsRule};
 ghost use Rattle.afr_client_walk.specs.Walk.{IsWalk};
 
-use afr_base::{AllMarks, BrickId, Gfid, NameId, Shape, What};
+use afr_base::{AllMarks, BrickId, NameId, Shape, What};
 use afr_client_walk::{Stop, Walk, WalkStep, stop_reply};
 use afr_lines::{Answer, Reply, Request};
 use afr_object::View;
@@ -42,20 +42,6 @@ fn hears<G: Fn(&[Candidate]) -> usize>(walk: &mut Walk, answer: &Answer, rule: &
     }
 }
 
-/// Whom the walk asks next, and the request that it writes into a place that held another; nothing, where it has ended.
-fn asked(walk: &Walk) -> Option<(BrickId, Request)>
-    requires { IsWalk walk.now }
-{
-    match walk.step {
-        WalkStep::Looking(_) | WalkStep::Naming(_) => {
-            let mut request = Request::Index;
-            let brick = walk.asks(&mut request);
-            Some((brick, request))
-        }
-        _ => None,
-    }
-}
-
 /// A walk of one name on three bricks; the last two have answered its looks.
 fn looked_at<G: Fn(&[Candidate]) -> usize>(alloc: Global, rule: &ReadRule<G>) -> Option<WalkStep>
     requires { IsRule G.Fn rule.now }
@@ -77,40 +63,6 @@ fn a_name_is_read_at_the_good_copy_that_the_rule_picks(rt: HostRuntime) {
     assert!(rt; matches!(lowest, Some(WalkStep::Naming(BrickId(1)))));
     let highest = looked_at(rt.alloc(), &ReadRule::new(last));
     assert!(rt; matches!(highest, Some(WalkStep::Naming(BrickId(2)))));
-}
-
-/// Whether a walk of one name on two bricks asks each for a look, and then the lowest for the name.
-fn asks_in_its_order(alloc: Global) -> Option<bool> {
-    let shape = Shape {
-        n: 2,
-        arbiter: false,
-    };
-    let rule = ReadRule::new(first);
-    let mut walk = Walk::new(alloc, shape, &[NameId(7)]).ok()?;
-    let lowest = asked(&walk);
-    hears(&mut walk, &clean(), &rule);
-    let highest = asked(&walk);
-    hears(&mut walk, &clean(), &rule);
-    let named = asked(&walk);
-    Some(
-        matches!(lowest, Some((BrickId(0), Request::Look { gfid: Gfid(1) })))
-            && matches!(highest, Some((BrickId(1), Request::Look { gfid: Gfid(1) })))
-            && matches!(
-                named,
-                Some((
-                    BrickId(0),
-                    Request::ReadName {
-                        gfid: Gfid(1),
-                        name: NameId(7)
-                    }
-                ))
-            ),
-    )
-}
-
-#[test]
-fn a_walk_writes_the_request_that_it_asks_next(rt: HostRuntime) {
-    assert!(rt; matches!(asks_in_its_order(rt.alloc()), Some(true)));
 }
 
 #[test]

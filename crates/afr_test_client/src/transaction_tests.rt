@@ -6,5 +6,3 @@ mod changes;
 mod lines;
 #[cfg(test)]
 mod phases;
-#[cfg(test)]
-mod replies;

@@ -2,55 +2,12 @@
 ghost use Rattle.std.specs.Prelude.{◌≡◌, ◌≤◌};
 
 use crate::lines::{
-    FILE, all_attrs, all_bytes, asks, asks_all, locks, may_ask, may_end, puts, raises, sees_behind,
+    FILE, all_attrs, all_bytes, asks, asks_all, may_ask, may_end, puts, raises, sees_behind,
     settles, unlocks, untouched,
 };
-use afr_base::Kind;
-use afr_discipline::{Move, Register, may};
+use afr_base::{BrickId, BrickSet, Kind};
+use afr_discipline::{Register, Step, asked_at};
 use afr_lines::{Domain, Request, Told};
-
-fn may_begin(register: &Register, kind: Kind) -> bool
-    requires { register.now.shape.n ≤ 5 }
-{
-    may(register, &Move::HealBegin(FILE, kind))
-}
-
-#[test]
-fn locks_come_first_and_then_the_begin(rt: HostRuntime) {
-    let heal = locks(Domain::Heal, all_bytes());
-    let work = locks(Domain::Work, all_attrs());
-    let mut register = untouched();
-    assert!(rt; may_ask(&register, 0, &heal));
-    assert!(rt; !may_ask(&register, 1, &heal));
-    assert!(rt; asks(&mut register, 0, &heal, Told::Granted, 0));
-    assert!(rt; !may_ask(&register, 2, &heal));
-    assert!(rt; !may_ask(&register, 0, &work));
-    assert!(rt; asks(&mut register, 1, &heal, Told::Granted, 1));
-    assert!(rt; asks(&mut register, 2, &heal, Told::Granted, 2));
-    assert!(rt; may_ask(&register, 0, &work));
-    assert!(rt; !may_ask(&register, 1, &work));
-    assert!(rt; asks_all(&mut register, &work, Told::Granted, 3));
-    assert!(rt; may_begin(&register, Kind::Attrs));
-    assert!(rt; !may_begin(&register, Kind::Bytes));
-    assert!(rt; !may_end(&register));
-}
-
-#[test]
-fn the_source_is_open_until_a_line_tells(rt: HostRuntime) {
-    let read = Request::ReadAttrs { gfid: FILE };
-    let pre = raises(Kind::Attrs);
-    let mut register = untouched();
-    assert!(rt; sees_behind(&mut register));
-    assert!(rt; may_ask(&register, 0, &read));
-    assert!(rt; may_ask(&register, 1, &read));
-    assert!(rt; !may_ask(&register, 2, &read));
-    assert!(rt; !may_ask(&register, 1, &pre));
-    assert!(rt; asks(&mut register, 0, &read, Told::Given, 10));
-    assert!(rt; !may_ask(&register, 1, &read));
-    assert!(rt; may_ask(&register, 1, &pre));
-    assert!(rt; !may_ask(&register, 0, &pre));
-    assert!(rt; !may_ask(&register, 2, &pre));
-}
 
 /// A heal that has read at brick 0 and raised the numbers of the others; tells whether each of its moves was allowed.
 fn raises_others(register: &mut Register) -> bool
@@ -76,6 +33,8 @@ fn a_heal_mends_with_its_read_and_settles_what_is_owed(rt: HostRuntime) {
     assert!(rt; !may_ask(&register, 0, &settles(1, 0)));
     assert!(rt; asks(&mut register, 1, &puts(10), Told::Done, 13));
     assert!(rt; asks(&mut register, 2, &puts(10), Told::Done, 14));
+    let others = BrickSet::all(3).without(BrickId(0));
+    assert!(rt; asked_at(&register, Step::Mends) == others);
     assert!(rt; may_ask(&register, 0, &settles(1, 0)));
     assert!(rt; !may_ask(&register, 0, &settles(1, 1)));
     assert!(rt; !may_ask(&register, 0, &settles(0, 0)));

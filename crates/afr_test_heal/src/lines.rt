@@ -64,30 +64,6 @@ pub(crate) fn asks(register: &Register, kind: Kind, b: u8) -> Option<Request>
     }
 }
 
-pub(crate) fn begins(register: &Register, kind: Kind) -> bool
-    requires { register.now.shape.n ≤ 5 }
-{
-    let mut request = Request::Index;
-    matches!(comes(register, kind, &mut request), Coming::Begin)
-}
-
-pub(crate) fn ends(register: &Register, kind: Kind) -> bool
-    requires { register.now.shape.n ≤ 5 }
-{
-    let mut request = Request::Index;
-    matches!(comes(register, kind, &mut request), Coming::End)
-}
-
-/// The next line asks for a lock of this domain at the brick.
-pub(crate) fn locks(register: &Register, kind: Kind, domain: Domain, b: u8) -> bool
-    requires { register.now.shape.n ≤ 5 }
-{
-    match asks(register, kind, b) {
-        Some(Request::Lock { domain: other, .. }) => other == domain,
-        _ => false,
-    }
-}
-
 /// The next line gives a lock of this domain back at the brick.
 pub(crate) fn unlocks(register: &Register, kind: Kind, domain: Domain, b: u8) -> bool
     requires { register.now.shape.n ≤ 5 }

@@ -1,4 +1,4 @@
-//! Tests of runs in the stated order, and of runs that are made again of their images.
+//! Tests of runs in the stated order.
 #![tactic(auto)]
 
 #[cfg(test)]

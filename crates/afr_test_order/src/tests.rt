@@ -1,11 +1,10 @@
-//! A plan is run in its order, line by line, and the same run is made again of its image.
+//! A plan is run in its order, line by line.
 ghost use Rattle.std.specs.Prelude.{◌≡◌, [], OnOk, false};
 
 use afr_base::{ActorId, BrickId};
-use afr_image::{Image, Step};
 use afr_law_runnable::every_spelled_plan_runs;
 use afr_lines::{Line, Request};
-use afr_order::{Replayed, drive, image_of, replay, with_turns};
+use afr_order::{drive, with_turns};
 use afr_plan_read::read_plan;
 use afr_rule::{ReadRule, Rules, SourceRule, shipped};
 use afr_volume::Volume;
@@ -18,14 +17,6 @@ const BOTH: &str =
 
 const LINES: &str =
     "look0 look1 look2 name0 lock0 lock1 lock2 look0 look1 look2 begin pre0 pre1 pre2 apply0 apply1 apply2 post0 post1 post2 unlock0 unlock1 unlock2 end look0 look1 look2 name0 look0 look1 look2 read0 end index0 end ";
-
-/// A write that brick 2 misses, and the round that heals it.
-const PLAN: &str =
-    "afr 1\nvolume replica\nfiles 1\nturns 100000\nclient 1\nwrite /f1 0 \"hello\"\nhealer 1\nround 0\nat 0 stop 2\nat 20 start 2\nend\n";
-
-/// The same without the events.
-const QUIET: &str =
-    "afr 1\nvolume replica\nfiles 1\nturns 100000\nclient 1\nwrite /f1 0 \"hello\"\nhealer 1\nround 0\nend\n";
 
 /// Sets the volume up for a plan, with fewer turns than it says.
 fn set_up(alloc: Global, volume: &mut Volume, plan: &str) -> Result<(), Fail>
@@ -56,60 +47,6 @@ fn drives(volume: &mut Volume) -> Result<(), Fail>
         return Err(Fail::from("memory"));
     };
     Ok(())
-}
-
-/// The image of the run of a plan.
-fn recorded(alloc: Global, plan: &str) -> Result<Image, Fail> {
-    let mut volume = Volume::empty(alloc);
-    set_up(alloc, &mut volume, plan)?;
-    drives(&mut volume)?;
-    let Ok(image) = image_of(alloc, &volume) else {
-        return Err(Fail::from("memory"));
-    };
-    Ok(image)
-}
-
-/// Makes the run of an image again, and answers how it ended.
-fn replays(volume: &mut Volume, image: &Image) -> Result<Replayed, Fail>
-    requires fresh { volume.old.log ≡ [] }
-    requires plain { volume.old.crawl ≡ false }
-    ensures { volume.new.crawl ≡ false }
-{
-    if image.steps.len() > volume.plan().turns as usize {
-        return Err(Fail::from("turns"));
-    }
-    let rules = Rules {
-        heal: SourceRule::new(shipped::longest),
-        read: ReadRule::new(shipped::first),
-    };
-    let Ok(replayed) = replay(volume, image, &rules) else {
-        return Err(Fail::from("memory"));
-    };
-    Ok(replayed)
-}
-
-/// Whether these are the same steps, and more than none.
-fn are_same(made: &[Step], steps: &[Step]) -> bool {
-    made == steps && !made.is_empty()
-}
-
-/// Whether the volume has the steps of the image.
-fn has_steps(alloc: Global, volume: &Volume, image: &Image) -> Result<bool, Fail>
-    requires { volume.now.crawl ≡ false }
-{
-    let Ok(again) = image_of(alloc, volume) else {
-        return Err(Fail::from("memory"));
-    };
-    Ok(are_same(again.steps.as_slice(), image.steps.as_slice()))
-}
-
-/// Makes the run of an image again over a volume of this plan: how that ended, and whether the volume has its steps then.
-fn made_again(alloc: Global, plan: &str, image: &Image) -> Result<(Replayed, bool), Fail> {
-    let mut volume = Volume::empty(alloc);
-    set_up(alloc, &mut volume, plan)?;
-    let replayed = replays(&mut volume, image)?;
-    let same = has_steps(alloc, &volume, image)?;
-    Ok((replayed, same))
 }
 
 fn word_of(request: &Request) -> &'static str {
@@ -180,21 +117,5 @@ fn a_write_a_read_and_a_round_have_35_lines(rt: HostRuntime) -> Result<(), Fail>
     let done = worked(rt.alloc(), &mut text)?;
     assert!(rt; done);
     assert_eq!(rt; text.as_str(), LINES);
-    Ok(())
-}
-
-#[test]
-fn a_run_is_made_again_of_its_image(rt: HostRuntime) -> Result<(), Fail> {
-    let image = recorded(rt.alloc(), PLAN)?;
-    let (replayed, same) = made_again(rt.alloc(), PLAN, &image)?;
-    assert!(rt; replayed == Replayed::Same && same);
-    Ok(())
-}
-
-#[test]
-fn an_event_that_never_comes_is_where_a_run_differs(rt: HostRuntime) -> Result<(), Fail> {
-    let image = recorded(rt.alloc(), PLAN)?;
-    let (replayed, same) = made_again(rt.alloc(), QUIET, &image)?;
-    assert!(rt; replayed == Replayed::Differs(0) && !same);
     Ok(())
 }

@@ -1,12 +1,10 @@
-//! Tests of reports, of their summaries, and of traces.
+//! Tests of reports and of traces.
 #![tactic(auto)]
 
 #[cfg(test)]
 mod made;
 #[cfg(test)]
 mod reported;
-#[cfg(test)]
-mod summaries;
 #[cfg(test)]
 mod tests;
 #[cfg(test)]

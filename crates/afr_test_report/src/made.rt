@@ -1,13 +1,10 @@
 //! Plans and logs that are made by hand.
 
-use afr_base::{ActorId, BrickId, BrickSet, Gfid, Kind, NameId, NoMemory, Shape, ValueId, What};
-use afr_lines::{Event, Good, HealReply, Line, Reply, Request, Told};
-use afr_object::{Chunk, Entry, List, NameList, Views};
-use afr_plan::{Command, Plan, RoundList, Rounds, Script, Scripts, Word, WordList, Words};
+use afr_base::{ActorId, BrickId, Gfid, NameId, NoMemory, Shape, ValueId, What};
+use afr_lines::{Event, Good, Line, Reply};
+use afr_object::{Chunk, Entry, List, NameList};
+use afr_plan::{Command, Plan, Rounds, Script, Scripts, Word, WordList, Words};
 use std::alloc::Global;
-
-/// The root directory.
-const ROOT: Gfid = Gfid(1);
 
 /// A plan of three bricks, with no opening file and two names.
 pub fn plan_of(
@@ -86,16 +83,6 @@ pub fn two_readers(alloc: Global) -> Result<Scripts, NoMemory> {
     Ok(clients)
 }
 
-/// Two rounds of one healer.
-pub fn two_rounds(alloc: Global) -> Result<Rounds, NoMemory> {
-    let mut rounds: RoundList = List::new(alloc);
-    rounds.push(BrickId(0))?;
-    rounds.push(BrickId(1))?;
-    let mut healers = List::new(alloc);
-    healers.push(rounds)?;
-    Ok(healers)
-}
-
 fn end(actor: u16, reply: Reply) -> Line {
     Line::End {
         actor: ActorId(actor),
@@ -151,71 +138,6 @@ pub fn dead_and_short(alloc: Global) -> Result<Vec<Line>, NoMemory> {
         event(Event::Stop(BrickId(2))),
         end(1, Reply::FewCopies),
         event(Event::Kill(ActorId(1))),
-    ];
-    Ok(Vec::from_array(alloc, lines)?)
-}
-
-fn pre(brick: u8) -> Line {
-    Line::Ask {
-        actor: ActorId(1),
-        brick: BrickId(brick),
-        request: Request::Pre {
-            gfid: ROOT,
-            kind: Kind::Names,
-        },
-        told: Told::Done,
-        took: true,
-    }
-}
-
-/// The brick closes an operation that the two others missed.
-fn accuse(brick: u8, missed: BrickSet) -> Line {
-    Line::Ask {
-        actor: ActorId(1),
-        brick: BrickId(brick),
-        request: Request::Post {
-            attempt: 0,
-            gfid: ROOT,
-            kind: Kind::Names,
-            missed,
-        },
-        told: Told::Done,
-        took: true,
-    }
-}
-
-fn heal_end(actor: u16, kind: Kind, reply: HealReply) -> Line {
-    Line::HealEnd {
-        actor: ActorId(actor),
-        gfid: ROOT,
-        kind,
-        reply,
-    }
-}
-
-/// Two bricks accuse all but themselves, the third has an open operation; a healer's first round
-/// ends after some heals, and its second has only begun.
-pub fn split_and_heals(alloc: Global) -> Result<Vec<Line>, NoMemory> {
-    let others_of_0 = BrickSet::all(3).without(BrickId(0));
-    let others_of_1 = BrickSet::all(3).without(BrickId(1));
-    let lines = [
-        pre(0),
-        accuse(0, others_of_0),
-        pre(1),
-        accuse(1, others_of_1),
-        pre(2),
-        heal_end(17, Kind::Attrs, HealReply::Nothing),
-        heal_end(
-            17,
-            Kind::Names,
-            HealReply::Split(Views::new(alloc, &[None; 5])?),
-        ),
-        heal_end(18, Kind::Names, HealReply::Failed),
-        heal_end(17, Kind::Bytes, HealReply::Busy(ActorId(18))),
-        heal_end(17, Kind::Names, HealReply::Moved(BrickId(1))),
-        heal_end(17, Kind::Attrs, HealReply::Settled),
-        end(17, Reply::Ok(Good::Done)),
-        heal_end(17, Kind::Names, HealReply::Short),
     ];
     Ok(Vec::from_array(alloc, lines)?)
 }

@@ -244,14 +244,3 @@ fn a_repaired_brick_has_the_bytes_of_another(rt: HostRuntime) -> Result<(), Fail
     assert!(rt; holds);
     Ok(())
 }
-
-#[test]
-fn a_new_brick_shows_an_empty_root(rt: HostRuntime) -> Result<(), Fail> {
-    let brick = Brick::empty(rt.alloc(), false).ok().ok_or("memory")?;
-    let view = brick.look(ROOT).ok_or("no root")?;
-    assert_eq!(rt; view.what, What::Dir);
-    assert_eq!(rt; view.len, 0);
-    let clean = view.marks.is_zero();
-    assert!(rt; clean);
-    Ok(())
-}

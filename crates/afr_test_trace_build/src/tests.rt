@@ -126,30 +126,52 @@ fn built(alloc: Global, plan: &Plan, text: &str, most: u32) -> Result<Vec<Line>,
     Ok(log)
 }
 
-#[test]
-fn lines_that_were_filled_are_printed_as_they_stood(rt: HostRuntime) -> Result<(), Fail> {
-    let plan = plan(rt.alloc())?;
-    let log = built(rt.alloc(), &plan, lines(), 1000)?;
-    let mut out = String::new(rt.alloc());
+/// Whether the log is printed as the text.
+fn prints(alloc: Global, plan: &Plan, log: &[Line], text: &str) -> Result<bool, Fail> {
+    let mut out = String::new(alloc);
     for position in 0..log.len() {
-        if push_line(&mut out, &plan, position, &log[position]).is_err() {
+        if push_line(&mut out, plan, position, &log[position]).is_err() {
             return Err("no memory".into());
         }
     }
-    assert!(rt; out.as_str() == lines());
+    Ok(out.as_str() == text)
+}
+
+fn comes_again(alloc: Global, plan: &Plan) -> Result<bool, Fail> {
+    let log = built(alloc, plan, lines(), 1000)?;
+    prints(alloc, plan, log.as_slice(), lines())
+}
+
+#[test]
+fn lines_that_were_filled_are_printed_as_they_stood(rt: HostRuntime) -> Result<(), Fail> {
+    let plan = plan(rt.alloc())?;
+    let again = comes_again(rt.alloc(), &plan)?;
+    assert!(rt; again);
     Ok(())
+}
+
+fn stands(alloc: Global, plan: &Plan, log: &[Line], line: &str) -> Result<bool, Fail> {
+    match filled(alloc, plan, log, 14, line)? {
+        Filled::Stands(_) => Ok(true),
+        _ => Ok(false),
+    }
+}
+
+/// Whether one of the others stands for a line after the first fourteen.
+fn any_other_stands(alloc: Global, plan: &Plan) -> Result<bool, Fail> {
+    let log = built(alloc, plan, lines(), 14)?;
+    for line in others().lines() {
+        if stands(alloc, plan, log.as_slice(), line)? {
+            return Ok(true);
+        }
+    }
+    Ok(false)
 }
 
 #[test]
 fn other_lines_stand_for_none(rt: HostRuntime) -> Result<(), Fail> {
     let plan = plan(rt.alloc())?;
-    let log = built(rt.alloc(), &plan, lines(), 14)?;
-    for line in others().lines() {
-        let stands = match filled(rt.alloc(), &plan, log.as_slice(), 14, line)? {
-            Filled::Stands(_) => true,
-            _ => false,
-        };
-        assert!(rt; !stands, "{line}");
-    }
+    let stands = any_other_stands(rt.alloc(), &plan)?;
+    assert!(rt; !stands);
     Ok(())
 }

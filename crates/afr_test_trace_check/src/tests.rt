@@ -80,84 +80,58 @@ fn found(alloc: Global, eighth: &str, other: &str) -> Result<Finding, Fail> {
     }
 }
 
-#[test]
-fn the_trace_of_a_run_is_right(rt: HostRuntime) -> Result<(), Fail> {
-    let found = found(
-        rt.alloc(),
+/// Two lines, and what is found of the trace with them: it is right; an event comes early; a brick that is up loses no
+/// request; what a command answers isn't judged; a read begins no write; a text that ends early breaks its form.
+const CASES: [(&str, &str, Finding); 6] = [
+    (
         "7 c1 b0 look f1 seen\n",
         "24 c2 end ok 68656c6c6f\n",
-    )?;
-    assert!(rt; found == Finding::Yes(35), "{found:?}");
-    Ok(())
-}
-
-#[test]
-fn an_event_does_not_come_early(rt: HostRuntime) -> Result<(), Fail> {
-    let found = found(rt.alloc(), "7 event kill c1\n", "24 c2 end ok 68656c6c6f\n")?;
-    assert!(rt;
-        found
-            == Finding::No {
-                line: 7,
-                rule: Rule::Follows
-            },
-        "{found:?}"
-    );
-    Ok(())
-}
-
-#[test]
-fn a_brick_that_is_up_has_no_lost_request(rt: HostRuntime) -> Result<(), Fail> {
-    let found = found(
-        rt.alloc(),
+        Finding::Yes(35),
+    ),
+    (
+        "7 event kill c1\n",
+        "24 c2 end ok 68656c6c6f\n",
+        Finding::No {
+            line: 7,
+            rule: Rule::Follows,
+        },
+    ),
+    (
         "7 c1 b0 look f1 gone\n",
         "24 c2 end ok 68656c6c6f\n",
-    )?;
-    assert!(rt;
-        found
-            == Finding::No {
-                line: 7,
-                rule: Rule::Honest
-            },
-        "{found:?}"
-    );
-    Ok(())
-}
-
-#[test]
-fn what_a_command_answers_is_not_judged(rt: HostRuntime) -> Result<(), Fail> {
-    let found = found(rt.alloc(), "7 c1 b0 look f1 seen\n", "24 c2 end ok -\n")?;
-    assert!(rt; found == Finding::Yes(35), "{found:?}");
-    Ok(())
-}
-
-#[test]
-fn a_read_begins_no_write(rt: HostRuntime) -> Result<(), Fail> {
-    let found = found(
-        rt.alloc(),
+        Finding::No {
+            line: 7,
+            rule: Rule::Honest,
+        },
+    ),
+    (
+        "7 c1 b0 look f1 seen\n",
+        "24 c2 end ok -\n",
+        Finding::Yes(35),
+    ),
+    (
         "7 c1 b0 look f1 seen\n",
         "24 c2 begin write f1 0 5\n",
-    )?;
-    assert!(rt;
-        found
-            == Finding::No {
-                line: 24,
-                rule: Rule::Follows
-            },
-        "{found:?}"
-    );
-    Ok(())
-}
+        Finding::No {
+            line: 24,
+            rule: Rule::Follows,
+        },
+    ),
+    (
+        "7 c1 b0 look f1 seen\n",
+        "24 c2 end\n",
+        Finding::No {
+            line: 24,
+            rule: Rule::Text,
+        },
+    ),
+];
 
 #[test]
-fn a_text_that_ends_early_breaks_its_form(rt: HostRuntime) -> Result<(), Fail> {
-    let found = found(rt.alloc(), "7 c1 b0 look f1 seen\n", "24 c2 end\n")?;
-    assert!(rt;
-        found
-            == Finding::No {
-                line: 24,
-                rule: Rule::Text
-            },
-        "{found:?}"
-    );
+fn a_trace_is_right_or_breaks_a_rule_at_its_line(rt: HostRuntime) -> Result<(), Fail> {
+    for (eighth, other, want) in CASES {
+        let found = found(rt.alloc(), eighth, other)?;
+        assert!(rt; found == want, "{eighth} {other}");
+    }
     Ok(())
 }

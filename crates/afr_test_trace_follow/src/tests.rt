@@ -106,35 +106,55 @@ fn end_of(a: u16) -> Line {
     }
 }
 
+/// How many of the lines follow the plan of the tests, up to the first that doesn't.
+fn right(alloc: Global, lines: &[Line]) -> Result<usize, Fail> {
+    let plan = plan(alloc)?;
+    first_wrong(alloc, &plan, lines)
+}
+
+/// An index and a name that are asked, and three ends, of which the last is one too many.
+fn worked(alloc: Global) -> Result<usize, Fail> {
+    let lines = [index_at(1), name_in(1), end_of(17), end_of(1), end_of(1)];
+    right(alloc, &lines)
+}
+
+/// The name is asked in another directory.
+fn elsewhere(alloc: Global) -> Result<usize, Fail> {
+    let lines = [name_in(2)];
+    right(alloc, &lines)
+}
+
+/// The name is asked a second time.
+fn again(alloc: Global) -> Result<usize, Fail> {
+    let lines = [name_in(1), name_in(1)];
+    right(alloc, &lines)
+}
+
+/// The round asks the brick before its own.
+fn at_another_brick(alloc: Global) -> Result<usize, Fail> {
+    let lines = [index_at(0)];
+    right(alloc, &lines)
+}
+
 #[test]
 fn a_command_and_a_round_follow(rt: HostRuntime) -> Result<(), Fail> {
-    let plan = plan(rt.alloc())?;
-    let lines = [index_at(1), name_in(1), end_of(17), end_of(1), end_of(1)];
-    let right = first_wrong(rt.alloc(), &plan, &lines)?;
+    let right = worked(rt.alloc())?;
     assert_eq!(rt; right, 4);
     Ok(())
 }
 
 #[test]
 fn a_name_is_asked_where_the_path_stands(rt: HostRuntime) -> Result<(), Fail> {
-    let plan = plan(rt.alloc())?;
-    let elsewhere = [name_in(2)];
-    let right = first_wrong(rt.alloc(), &plan, &elsewhere)?;
+    let right = elsewhere(rt.alloc())?;
     assert_eq!(rt; right, 0);
-    let again = [name_in(1), name_in(1)];
-    let right = first_wrong(rt.alloc(), &plan, &again)?;
+    let right = again(rt.alloc())?;
     assert_eq!(rt; right, 1);
     Ok(())
 }
 
 #[test]
 fn a_round_asks_its_own_brick_first(rt: HostRuntime) -> Result<(), Fail> {
-    let plan = plan(rt.alloc())?;
-    let other = [index_at(0)];
-    let right = first_wrong(rt.alloc(), &plan, &other)?;
-    assert_eq!(rt; right, 0);
-    let ended = [end_of(17)];
-    let right = first_wrong(rt.alloc(), &plan, &ended)?;
+    let right = at_another_brick(rt.alloc())?;
     assert_eq!(rt; right, 0);
     Ok(())
 }

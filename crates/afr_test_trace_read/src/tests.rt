@@ -132,46 +132,63 @@ fn plan(alloc: Global) -> Result<Plan, Fail> {
 }
 
 /// How many lines of a trace are read, and whether it breaks after them.
-fn told(alloc: Global, plan: &Plan, text: &str) -> Result<(usize, bool), Fail> {
+fn told_of(alloc: Global, plan: &Plan, text: &str) -> Result<(usize, bool), Fail> {
     match read_trace(alloc, plan, text.as_bytes()) {
         Ok(told) => Ok((told.lines.len(), told.broken)),
         Err(_) => Err("the trace isn't read".into()),
     }
 }
 
+fn told(alloc: Global, text: &str) -> Result<(usize, bool), Fail> {
+    let plan = plan(alloc)?;
+    told_of(alloc, &plan, text)
+}
+
+/// Whether each line of the log is read at its position.
+fn are_read(plan: &Plan) -> bool {
+    let mut position: u32 = 0;
+    for line in lines().lines() {
+        if read_line(plan, position, line.as_bytes()).is_none() {
+            return false;
+        }
+        position = position.saturating_add(1);
+    }
+    true
+}
+
 #[test]
 fn each_kind_of_line_is_read(rt: HostRuntime) -> Result<(), Fail> {
     let plan = plan(rt.alloc())?;
-    let mut position: u32 = 0;
-    for line in lines().lines() {
-        assert!(rt;
-            read_line(&plan, position, line.as_bytes()).is_some(),
-            "{line}"
-        );
-        position = position.saturating_add(1);
-    }
+    let read = are_read(&plan);
+    assert!(rt; read);
     Ok(())
+}
+
+/// Whether one of the others is read.
+fn is_any_other_read(plan: &Plan) -> bool {
+    for line in others().lines() {
+        if read_line(plan, 7, line.as_bytes()).is_some() {
+            return true;
+        }
+    }
+    false
 }
 
 #[test]
 fn other_texts_are_of_no_line(rt: HostRuntime) -> Result<(), Fail> {
     let plan = plan(rt.alloc())?;
-    for line in others().lines() {
-        assert!(rt; read_line(&plan, 7, line.as_bytes()).is_none(), "{line}");
-    }
+    let read = is_any_other_read(&plan);
+    assert!(rt; !read);
     Ok(())
 }
 
 #[test]
 fn a_trace_is_read_up_to_its_first_other_text(rt: HostRuntime) -> Result<(), Fail> {
-    let plan = plan(rt.alloc())?;
-    let (count, broken) = told(rt.alloc(), &plan, lines())?;
-    assert!(rt; count == 48 && !broken);
-    let (count, broken) = told(rt.alloc(), &plan, "0 c1 b0 index ok\n1 c1 b0 index")?;
-    assert!(rt; count == 1 && broken);
-    let (count, broken) = told(rt.alloc(), &plan, "0 c1 b0 index ok\n2 c1 b0 index ok\n")?;
-    assert!(rt; count == 1 && broken);
-    let (count, broken) = told(rt.alloc(), &plan, "")?;
-    assert!(rt; count == 0 && !broken);
+    let whole = told(rt.alloc(), lines())?;
+    assert!(rt; whole == (48, false));
+    let unended = told(rt.alloc(), "0 c1 b0 index ok\n1 c1 b0 index")?;
+    assert!(rt; unended == (1, true));
+    let elsewhere = told(rt.alloc(), "0 c1 b0 index ok\n2 c1 b0 index ok\n")?;
+    assert!(rt; elsewhere == (1, true));
     Ok(())
 }

@@ -1,7 +1,7 @@
 //! Commands on a name of the root, to their ends.
-use afr_base::{AllMarks, BrickId, Gfid, NameId, Shape, What};
+use afr_base::{AllMarks, Gfid, NameId, Shape, What};
 use afr_client_entry::{EntryJob, EntryMachine};
-use afr_lines::{Answer, Area, Good, Heard, Next, Reply, Request};
+use afr_lines::{Answer, Good, Heard, Next, Reply};
 use afr_object::{Change, Entry, List, Load, NameList, View};
 use afr_rule::ReadRule;
 use afr_rule::shipped::first;
@@ -63,36 +63,6 @@ fn locked(alloc: Global, job: EntryJob) -> Option<EntryMachine> {
     Some(machine)
 }
 
-/// The end of a command, after this was told of its name.
-fn end_after(alloc: Global, job: EntryJob, told: Answer) -> Option<Next> {
-    let mut machine = locked(alloc, job)?;
-    hears_one(&mut machine, told);
-    all_done(&mut machine);
-    machine.next(20).ok()
-}
-
-#[test]
-fn a_name_is_locked_at_once_in_the_root(rt: HostRuntime) {
-    let first = on_three(rt.alloc(), &[], EntryJob::Create { name: NAME }).and_then(|m| m
-        .next(0)
-        .ok());
-    assert!(rt;
-        matches!(
-            first,
-            Some(Next::Ask(
-                BrickId(0),
-                Request::Lock {
-                    area: Area::Name {
-                        gfid: ROOT,
-                        name: Some(NAME)
-                    },
-                    ..
-                }
-            ))
-        )
-    );
-}
-
 /// A file is made on every brick: the number that its Begin line gives, whether its operation carries it, and its end.
 fn makes_a_file(alloc: Global) -> Option<(Next, bool, Next)> {
     let mut machine = locked(alloc, EntryJob::Create { name: NAME })?;
@@ -126,13 +96,6 @@ fn a_file_takes_its_number_from_its_begin_line(rt: HostRuntime) {
             ))
         )
     );
-}
-
-#[test]
-fn a_name_that_is_not_there_is_not_unlinked(rt: HostRuntime) {
-    let job = EntryJob::Unlink { name: NAME };
-    let end = end_after(rt.alloc(), job, Answer::Entry(None));
-    assert!(rt; matches!(end, Some(Next::End(Reply::NoEntry))));
 }
 
 /// The name leads to a directory, which is locked wherever the bricks answer so.

@@ -1,10 +1,10 @@
-//! A read of a file in the root, a stat of the root and a list of a file, to their ends.
+//! A read of a file in the root, at the copy that the rule picks, and one that is refused.
 ghost use Rattle.std.specs.Prelude.{◌<◌, length};
 ghost use Rattle.afr_rule.specs.Choosing.{IsRule};
 
 use afr_base::{AllMarks, BrickId, Gfid, NameId, Shape, What};
 use afr_client_read::{LookupJob, LookupMachine};
-use afr_lines::{Answer, Good, Heard, Next, Reply, Request};
+use afr_lines::{Answer, Heard, Next, Reply, Request};
 use afr_object::{Entry, Load, View};
 use afr_rule::shipped::first;
 use afr_rule::{Candidate, ReadRule};
@@ -99,27 +99,12 @@ fn reader_by<G: Fn(&[Candidate]) -> usize>(alloc: Global, rule: &ReadRule<G>) ->
     }
 }
 
-fn next_of(machine: Option<LookupMachine>) -> Option<Next> {
-    machine?.next(9).ok()
-}
-
 #[test]
 fn a_file_in_the_root_is_read_at_the_good_copy_that_the_rule_picks(rt: HostRuntime) {
     let lowest = reader_by(rt.alloc(), &ReadRule::new(first));
     assert!(rt; matches!(lowest, Some(BrickId(1))));
     let highest = reader_by(rt.alloc(), &ReadRule::new(last));
     assert!(rt; matches!(highest, Some(BrickId(2))));
-}
-
-#[test]
-fn a_stat_tells_what_the_looks_showed(rt: HostRuntime) {
-    let machine = in_the_root(rt.alloc(), LookupJob::Stat, &ReadRule::new(last));
-    assert!(rt;
-        matches!(
-            next_of(machine),
-            Some(Next::End(Reply::Ok(Good::Stat { len: 5, .. })))
-        )
-    );
 }
 
 /// A refused read of the file's value: the last of these lines.

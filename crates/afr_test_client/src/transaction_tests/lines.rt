@@ -25,19 +25,6 @@ pub(crate) fn clean() -> Told {
     })
 }
 
-/// A copy that accuses all three bricks of having missed a change of the bytes.
-pub(crate) fn accusing() -> Told {
-    let mut marks = AllMarks::zero();
-    marks.bytes.pending[0] = 1;
-    marks.bytes.pending[1] = 1;
-    marks.bytes.pending[2] = 1;
-    Told::Seen(View {
-        what: What::File,
-        len: 7,
-        marks,
-    })
-}
-
 /// The next line was told this.
 pub(crate) fn tells(transaction: &mut Transaction, told: Told) {
     if !transaction.is_over() {

@@ -1,6 +1,5 @@
 //! Works of a client at the root, from their commands to their ends.
-ghost use Rattle.std.specs.Prelude.{◌≡◌, ◌<◌, Some, false, length};
-ghost use Rattle.afr_rule.specs.Choosing.{IsRule};
+ghost use Rattle.std.specs.Prelude.{◌≡◌, Some, false};
 ghost use Rattle.afr_client.specs.Work.{is_over, next_of};
 
 use afr_base::{AllMarks, BrickId, Gfid, KeyId, NameId, Shape, ValueId, What};
@@ -8,8 +7,8 @@ use afr_client::{WorkMachine, has_machine, work_for};
 use afr_lines::{Answer, Good, Next, Reply, Request};
 use afr_object::{Change, Entry, List, Load, View};
 use afr_plan::Command;
+use afr_rule::ReadRule;
 use afr_rule::shipped::first;
-use afr_rule::{Candidate, ReadRule};
 use std::alloc::Global;
 
 const ROOT: Gfid = Gfid(1);
@@ -125,50 +124,6 @@ fn a_stat_looks_and_ends(rt: HostRuntime) {
     );
 }
 
-/// The rule that takes the last candidate.
-fn last(from: &[Candidate]) -> usize
-    requires { 0 < length from.now }
-    ensures { result < length from.now }
-{
-    from.len() - 1
-}
-
-/// What the rule picks at a look.
-fn look<G: Fn(&[Candidate]) -> usize>(work: &mut WorkMachine, rule: &ReadRule<G>) -> Option<BrickId>
-    requires { IsRule G.Fn rule.now }
-{
-    let mut request = Request::Index;
-    let brick = asks_of(work, &mut request)?;
-    let mut answer = seen();
-    work.hear(brick, &request, &mut answer, 3, rule)
-}
-
-/// What the rule picks at the last two of three looks at the root, and what is asked for its names then.
-fn list_of_the_root(alloc: Global) -> Option<(Option<BrickId>, Option<BrickId>, Next)> {
-    let rule = ReadRule::new(last);
-    let path = List::new(alloc);
-    let mut work = on_three(alloc, &Command::Ls { path })?;
-    look(&mut work, &rule);
-    let second = look(&mut work, &rule);
-    let third = look(&mut work, &rule);
-    let next = line_of(&work)?;
-    Some((second, third, next))
-}
-
-#[test]
-fn the_rule_is_asked_once_all_bricks_have_answered(rt: HostRuntime) {
-    assert!(rt;
-        matches!(
-            list_of_the_root(rt.alloc()),
-            Some((
-                None,
-                Some(BrickId(2)),
-                Next::Ask(BrickId(2), Request::List { gfid: ROOT })
-            ))
-        )
-    );
-}
-
 /// An attribute of the root on its way to every brick.
 fn attribute_of_the_root(alloc: Global) -> Option<WorkMachine> {
     let command = Command::SetAttr {
@@ -207,39 +162,6 @@ fn an_attribute_is_carried_to_every_brick(rt: HostRuntime) {
             Some((true, Next::End(Reply::Ok(Good::Done))))
         )
     );
-}
-
-/// A directory in the root, on its way to every brick.
-fn directory_in_the_root(alloc: Global) -> Option<WorkMachine> {
-    let mut path = List::new(alloc);
-    path.push(NameId(7)).ok()?;
-    on_three(alloc, &Command::Mkdir { path })
-}
-
-/// The attempt began at line 10, which numbers the directory.
-fn carries_the_directory(work: &WorkMachine) -> bool {
-    matches!(
-        work.load(),
-        Load::Change(Change::Make {
-            dir: ROOT,
-            name: NameId(7),
-            gfid: Gfid(12),
-            what: What::Dir,
-        })
-    )
-}
-
-/// Whether its operation carried it, and what it answers where the name was free.
-fn made(alloc: Global) -> Option<(bool, Next)> {
-    let mut work = directory_in_the_root(alloc)?;
-    all_granted(&mut work);
-    all_seen(&mut work);
-    hears_one(&mut work, Answer::Entry(None));
-    begins(&mut work);
-    all_done(&mut work);
-    let carried = carries_the_directory(&work);
-    let next = finished(&mut work)?;
-    Some((carried, next))
 }
 
 fn the_file() -> Answer {

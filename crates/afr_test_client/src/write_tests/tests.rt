@@ -1,7 +1,7 @@
-//! Writes of a file in the root and changes of the root itself, to their ends.
-use afr_base::{AllMarks, BrickId, Gfid, KeyId, NameId, Shape, ValueId, What};
+//! A write of a file in the root, to its end.
+use afr_base::{AllMarks, Gfid, NameId, Shape, What};
 use afr_client_write::{WriteJob, WriteMachine};
-use afr_lines::{Answer, Good, Heard, Next, Reply, Request};
+use afr_lines::{Answer, Good, Heard, Next, Reply};
 use afr_object::{Change, Chunk, Entry, Load, View};
 use afr_rule::ReadRule;
 use afr_rule::shipped::first;
@@ -72,31 +72,6 @@ fn begins(machine: &mut WriteMachine) {
     hears_one(machine, seen(What::File));
     hears_one(machine, seen(What::File));
     hears(machine, Heard::Begun(10));
-}
-
-fn next_of(machine: Option<WriteMachine>) -> Option<Next> {
-    machine?.next(9).ok()
-}
-
-#[test]
-fn a_write_past_the_limit_asks_nobody(rt: HostRuntime) {
-    let machine = write_of(rt.alloc(), 1_048_576, 1);
-    assert!(rt; matches!(next_of(machine), Some(Next::End(Reply::TooLarge))));
-}
-
-#[test]
-fn an_attribute_of_the_root_is_locked_at_once(rt: HostRuntime) {
-    let job = WriteJob::SetAttr {
-        key: KeyId(1),
-        value: ValueId(2),
-    };
-    let machine = on_three(rt.alloc(), &[], job);
-    assert!(rt;
-        matches!(
-            next_of(machine),
-            Some(Next::Ask(BrickId(0), Request::Lock { .. }))
-        )
-    );
 }
 
 fn carries_the_write(machine: &WriteMachine) -> bool {

@@ -1,9 +1,8 @@
 //! Heals on three bricks, of which the last missed a change, line by line.
 use crate::machine_tests::lines::{
-    OBJECT, asks, carries_attrs, heal_of, hears, hears_done, names_carried, reply_of, seen,
-    sees_behind, unlocks,
+    OBJECT, asks, carries_attrs, heal_of, hears, hears_done, names_carried, reply_of, sees_behind,
 };
-use afr_base::{ActorId, BrickId, Gfid, Kind, NameId, NoMemory, What};
+use afr_base::{BrickId, Gfid, Kind, NameId, NoMemory, What};
 use afr_heal_machine::{HealMachine, HealOutcome};
 use afr_lines::{Answer, HealReply, Request};
 use afr_object::{Entry, List, NameList, Repair};
@@ -12,37 +11,22 @@ use std::alloc::Global;
 #[test]
 fn attributes_are_read_at_the_source_and_put_at_the_others(rt: HostRuntime) {
     let mut machine = heal_of(rt.alloc(), Kind::Attrs);
-    assert!(rt; matches!(asks(&machine, 0), Some(Request::Lock { .. })));
     assert!(rt; !machine.has_looked());
     sees_behind(&mut machine, What::File, Kind::Attrs);
     assert!(rt; machine.has_looked() && machine.source() == BrickId(0));
     assert!(rt; matches!(machine.outcome(), HealOutcome::Settled));
-    assert!(rt; matches!(asks(&machine, 0), Some(Request::ReadAttrs { .. })));
     hears(&mut machine, Answer::Attrs(List::new(rt.alloc())), 11);
-    assert!(rt; matches!(asks(&machine, 1), Some(Request::Pre { .. })));
     hears(&mut machine, Answer::Done, 12);
     hears(&mut machine, Answer::Done, 13);
     assert!(rt; machine.ready().is_ok());
     assert!(rt; carries_attrs(&machine));
-    assert!(rt;
-        matches!(
-            asks(&machine, 1),
-            Some(Request::Mend {
-                repair: Repair::PutAttrs { read: 11, .. }
-            })
-        )
-    );
     hears(&mut machine, Answer::Done, 14);
     hears(&mut machine, Answer::Done, 15);
-    assert!(rt; matches!(asks(&machine, 0), Some(Request::Settle { .. })));
     hears_done(&mut machine, 16);
-    assert!(rt; unlocks(&machine, 0, true));
     hears_done(&mut machine, 19);
-    assert!(rt; unlocks(&machine, 0, false));
     hears_done(&mut machine, 22);
     assert!(rt; matches!(reply_of(&machine), Some(HealReply::Settled)));
-    assert!(rt; machine.gfid() == OBJECT);
-    assert!(rt; machine.kind() == Kind::Attrs);
+    assert!(rt; machine.gfid() == OBJECT && machine.kind() == Kind::Attrs);
     assert!(rt; !machine.register().broken);
 }
 
@@ -87,43 +71,4 @@ fn the_names_of_each_good_copy_are_merged(rt: HostRuntime) {
     assert!(rt; machine.ready().is_ok());
     assert!(rt; names_carried(&machine) == 3);
     assert!(rt; merges(&machine, 11, 12));
-}
-
-#[test]
-fn a_heal_ends_where_another_has_its_lock(rt: HostRuntime) {
-    let mut machine = heal_of(rt.alloc(), Kind::Bytes);
-    hears(&mut machine, Answer::Held(ActorId(17)), 1);
-    assert!(rt; matches!(reply_of(&machine), Some(HealReply::Busy(ActorId(17)))));
-}
-
-#[test]
-fn a_refused_settling_is_no_settled_heal(rt: HostRuntime) {
-    let mut machine = heal_of(rt.alloc(), Kind::Attrs);
-    sees_behind(&mut machine, What::File, Kind::Attrs);
-    hears(&mut machine, Answer::Attrs(List::new(rt.alloc())), 11);
-    hears(&mut machine, Answer::Done, 12);
-    hears(&mut machine, Answer::Done, 13);
-    hears(&mut machine, Answer::Done, 14);
-    hears(&mut machine, Answer::Done, 15);
-    hears(&mut machine, Answer::Failed, 16);
-    hears_done(&mut machine, 17);
-    hears_done(&mut machine, 20);
-    assert!(rt; matches!(reply_of(&machine), Some(HealReply::Failed)));
-}
-
-#[test]
-fn a_clean_object_has_nothing_to_heal(rt: HostRuntime) {
-    let mut machine = heal_of(rt.alloc(), Kind::Bytes);
-    for at in 1..7u32 {
-        hears(&mut machine, Answer::Granted, at);
-    }
-    if machine.is_beginning() {
-        machine.begun(7);
-    }
-    for at in 8..11u32 {
-        hears(&mut machine, seen(What::File, Kind::Bytes, false), at);
-    }
-    hears_done(&mut machine, 11);
-    hears_done(&mut machine, 14);
-    assert!(rt; matches!(reply_of(&machine), Some(HealReply::Nothing)));
 }

@@ -1,7 +1,7 @@
 //! The lines of the tests: what a heal asks next, and the answers that it hears.
 use afr_base::{AllMarks, Gfid, Kind, Marks, Shape, What};
 use afr_heal_machine::HealMachine;
-use afr_lines::{Answer, Domain, HealReply, Next, Request};
+use afr_lines::{Answer, HealReply, Next, Request};
 use afr_object::{Load, View};
 use afr_rule::SourceRule;
 use afr_rule::shipped::longest;
@@ -78,24 +78,6 @@ pub(crate) fn asks(machine: &HealMachine, brick: u8) -> Option<Request> {
     match machine.asks(&mut request) {
         Some(b) => { if b.0 == brick { Some(request) } else { None } }
         None => None,
-    }
-}
-
-pub(crate) fn unlocks(machine: &HealMachine, brick: u8, of_work: bool) -> bool {
-    match asks(machine, brick) {
-        Some(
-            Request::Unlock {
-                domain: Domain::Work,
-                ..
-            },
-        ) => of_work,
-        Some(
-            Request::Unlock {
-                domain: Domain::Heal,
-                ..
-            },
-        ) => !of_work,
-        _ => false,
     }
 }
 

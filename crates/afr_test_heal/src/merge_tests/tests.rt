@@ -55,12 +55,3 @@ fn the_greater_gfid_stands_and_of_one_gfid_the_directory(rt: HostRuntime) -> Res
     assert!(rt; holds);
     Ok(())
 }
-
-#[test]
-fn no_lists_give_no_names(rt: HostRuntime) -> Result<(), Fail> {
-    let lists = [None, None, None, None, None];
-    let names = merged_names(rt.alloc(), &lists).ok().ok_or("memory")?;
-    let holds = names.len() == 0;
-    assert!(rt; holds);
-    Ok(())
-}

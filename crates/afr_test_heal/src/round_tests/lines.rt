@@ -115,7 +115,3 @@ pub(crate) fn asks_for_a_lock(machine: &RoundMachine) -> bool {
 pub(crate) fn ends_well(machine: &RoundMachine) -> bool {
     matches!(machine.next(), Ok(Next::End(Reply::Ok(Good::Done))))
 }
-
-pub(crate) fn ends_failed(machine: &RoundMachine) -> bool {
-    matches!(machine.next(), Ok(Next::End(Reply::Failed)))
-}

@@ -1,11 +1,11 @@
 //! A round over an index that shows one file, and rounds whose index shows none or is refused, line by line.
 use crate::round_tests::lines::{
-    asks_for_a_lock, asks_for_the_index, crawl_of, ends_failed, ends_well, ends_with_nothing,
-    finds_nothing, hears, hears_index, round_of, task_of,
+    asks_for_a_lock, asks_for_the_index, crawl_of, ends_well, ends_with_nothing, finds_nothing,
+    hears_index, round_of, task_of,
 };
 use afr_base::Kind;
 use afr_lines::Answer;
-use afr_object::{List, Load};
+use afr_object::Load;
 use std::test::Fail;
 
 #[test]
@@ -27,20 +27,6 @@ fn a_file_has_its_attributes_healed_and_then_its_bytes(rt: HostRuntime) {
 }
 
 #[test]
-fn a_round_over_an_empty_index_heals_nothing(rt: HostRuntime) {
-    let mut machine = round_of(rt.alloc());
-    hears(&mut machine, Answer::Index(List::new(rt.alloc())), 0);
-    assert!(rt; ends_well(&machine));
-}
-
-#[test]
-fn a_round_fails_where_its_index_is_refused(rt: HostRuntime) {
-    let mut machine = round_of(rt.alloc());
-    hears(&mut machine, Answer::NotConnected, 0);
-    assert!(rt; ends_failed(&machine));
-}
-
-#[test]
 fn a_crawler_lists_and_heals_nothing(rt: HostRuntime) {
     let mut machine = crawl_of(rt.alloc());
     assert!(rt; asks_for_the_index(&machine));
@@ -49,14 +35,8 @@ fn a_crawler_lists_and_heals_nothing(rt: HostRuntime) {
 }
 
 #[test]
-fn a_task_heals_one_file_and_asks_for_no_index(rt: HostRuntime) -> Result<(), Fail> {
-    let mut machine = task_of(rt.alloc()).ok().ok_or("memory")?;
-    for (kind, from) in [(Kind::Attrs, 1), (Kind::Bytes, 18)] {
-        assert!(rt; machine.ready().is_ok());
-        assert!(rt; asks_for_a_lock(&machine));
-        finds_nothing(&mut machine, from);
-        assert!(rt; ends_with_nothing(&mut machine, kind));
-    }
-    assert!(rt; ends_well(&machine));
+fn a_task_asks_for_no_index(rt: HostRuntime) -> Result<(), Fail> {
+    let machine = task_of(rt.alloc()).ok().ok_or("memory")?;
+    assert!(rt; asks_for_a_lock(&machine));
     Ok(())
 }

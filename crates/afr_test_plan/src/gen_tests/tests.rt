@@ -58,26 +58,3 @@ fn small_plans_are_as_worked_out(rt: HostRuntime) -> Result<(), Fail> {
     assert!(rt; has_commands(rt.alloc(), 3, THREE)?);
     Ok(())
 }
-
-/// How many commands all clients of a plan have.
-fn count_commands(plan: &Plan) -> usize {
-    plan.clients
-        .as_slice()
-        .iter()
-        .map(|script| script.len())
-        .fold(0, |sum: usize, count| sum.saturating_add(count))
-}
-
-/// Whether the plan of the largest number has so many commands.
-fn largest_has(alloc: Global, commands: usize) -> bool {
-    match gen_plan(alloc, 2000) {
-        Ok(plan) => count_commands(&plan) == commands,
-        Err(_) => false,
-    }
-}
-
-#[test]
-fn the_largest_plan_has_8000_commands(rt: HostRuntime) -> Result<(), Fail> {
-    assert!(rt; largest_has(rt.alloc(), 8000));
-    Ok(())
-}

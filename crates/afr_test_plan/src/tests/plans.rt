@@ -1,7 +1,7 @@
 //! Plans that are read whole.
-use afr_base::{BrickId, NoMemory};
+use afr_base::BrickId;
 use afr_object::List;
-use afr_plan::{Command, Plan, WordList, Words};
+use afr_plan::{Command, Plan};
 use afr_plan_read::read_plan;
 use std::alloc::Global;
 use std::test::Fail;
@@ -10,16 +10,8 @@ use std::test::Fail;
 const WHOLE: &str =
     "afr 1\nvolume arbiter\nfiles 2\nturns 9\nclient 1\nmkdir /d\nwrite /d/b-2.C 7 hex:00ff\nwrite /f2 0 fill:3:0a\nwrite /d/b-2.C 0 \"say no\"\ncut /f1 3\nread /d/b-2.C 0 1\ncreate /x\nunlink /x\nrmdir /d\nls /\nstat /d\nsetattr / owner me\nsetattr /d owner you\ngetattr /f1 mode\nrename /y/x /e/d\nclient 2\nhealer 1\nround 0\nround 2\nhealer 2\nfault 1 4000000 fail\nfault 2 1 lost\nat 0 stop 2\nat 5 start 2\nat 5 cut c2 1\nat 6 join h2 0\nat 7 kill c1\ngo h2 3\ngo c1 1\nend\n";
 
-/// A plan of five bricks, the last two of them named.
-const FIVE: &str =
-    "afr 2\nvolume replica 5\nfiles 1\nturns 9\nclient 1\nwrite /f1 0 \"a\"\nhealer 1\nround 4\nfault 3 1 fail\nat 0 stop 4\nat 0 cut c1 3\nend\n";
-
 fn whole_text() -> &'static str {
     WHOLE
-}
-
-fn five_text() -> &'static str {
-    FIVE
 }
 
 fn have_lengths(scripts: &[List<Command>], want: &[usize]) -> bool {
@@ -48,32 +40,6 @@ fn is_whole(plan: &Plan) -> bool {
         && plan.go.len() == 2
 }
 
-fn push_words(text: &mut String, words: &WordList) -> Result<(), NoMemory> {
-    for word in words.as_slice() {
-        for b in word.as_slice() {
-            text.push(char::from(*b))?;
-        }
-        text.push(' ')?;
-    }
-    text.push('|')?;
-    Ok(())
-}
-
-fn words_text(alloc: Global, words: &Words) -> Result<String, NoMemory> {
-    let mut text = String::new(alloc);
-    push_words(&mut text, &words.names)?;
-    push_words(&mut text, &words.keys)?;
-    push_words(&mut text, &words.values)?;
-    Ok(text)
-}
-
-fn has_words(alloc: Global, plan: &Plan, want: &str) -> bool {
-    match words_text(alloc, &plan.words) {
-        Ok(text) => text.as_str() == want,
-        Err(_) => false,
-    }
-}
-
 fn whole_is_read(alloc: Global) -> bool {
     match read_plan(alloc, whole_text().as_bytes()) {
         Ok(plan) => is_whole(&plan),
@@ -81,43 +47,8 @@ fn whole_is_read(alloc: Global) -> bool {
     }
 }
 
-fn whole_has_words(alloc: Global, want: &str) -> bool {
-    match read_plan(alloc, whole_text().as_bytes()) {
-        Ok(plan) => has_words(alloc, &plan, want),
-        Err(_) => false,
-    }
-}
-
-fn is_five(plan: &Plan) -> bool {
-    plan.shape.n == 5
-        && !plan.shape.arbiter
-        && have_lengths(plan.clients.as_slice(), [1usize].as_slice())
-        && have_rounds(plan.healers.as_slice(), [1usize].as_slice())
-        && plan.faults.len() == 1
-        && plan.events.len() == 2
-}
-
-fn five_is_read(alloc: Global) -> bool {
-    match read_plan(alloc, five_text().as_bytes()) {
-        Ok(plan) => is_five(&plan),
-        Err(_) => false,
-    }
-}
-
-#[test]
-fn five_bricks_are_read(rt: HostRuntime) -> Result<(), Fail> {
-    assert!(rt; five_is_read(rt.alloc()));
-    Ok(())
-}
-
 #[test]
 fn all_kinds_of_lines_are_read(rt: HostRuntime) -> Result<(), Fail> {
     assert!(rt; whole_is_read(rt.alloc()));
-    Ok(())
-}
-
-#[test]
-fn words_are_numbered_by_first_sight(rt: HostRuntime) -> Result<(), Fail> {
-    assert!(rt; whole_has_words(rt.alloc(), "f1 f2 d b-2.C x y e |owner mode |me you |"));
     Ok(())
 }

@@ -29,14 +29,7 @@ const WORK_LOCK: Request = Request::Lock {
     area: TEN,
 };
 
-const HEAL_LOCK: Request = Request::Lock {
-    domain: Domain::Heal,
-    area: TEN,
-};
-
 const LOOK: Request = Request::Look { gfid: Gfid(1) };
-
-const LOOK_ELSEWHERE: Request = Request::Look { gfid: Gfid(7) };
 
 fn server_with(alloc: Global, faults: &[PlannedFault]) -> Option<Server>
     ensures { IfSome result (λ server. IsFresh server) }
@@ -80,36 +73,6 @@ fn meets_and_sees(server: &mut Server) -> bool
     }
 }
 
-fn lacks_the_object(server: &mut Server) -> bool
-    requires { IsFresh server.old }
-{
-    let mut asked = not_given();
-    match server.ask_first(ONE, &LOOK_ELSEWHERE, Load::Nothing, &mut asked) {
-        Ok(_) => asked.took && matches!(asked.answer, Answer::NoObject),
-        Err(_) => false,
-    }
-}
-
-fn refuses_without_a_session(server: &mut Server) -> bool
-    requires { IsFresh server.old }
-{
-    let mut asked = not_given();
-    match server.ask(ONE, None, &LOOK, Load::Nothing, &mut asked) {
-        Ok(()) => is_refused(&asked),
-        Err(_) => false,
-    }
-}
-
-fn fails_once(server: &mut Server) -> bool
-    requires { IsFresh server.old }
-{
-    let mut asked = not_given();
-    match server.ask_first(ONE, &LOOK, Load::Nothing, &mut asked) {
-        Ok(epoch) => epoch == Some(1) && !asked.took && matches!(asked.answer, Answer::Failed),
-        Err(_) => false,
-    }
-}
-
 fn loses_the_answer_and_the_session(server: &mut Server) -> bool
     requires { IsFresh server.old }
 {
@@ -138,19 +101,6 @@ fn waits_for_its_holder(server: &mut Server) -> bool
                 Err(_) => false,
             }
         }
-        Err(_) => false,
-    }
-}
-
-fn locks_beside_a_heal(server: &mut Server) -> bool
-    requires { IsFresh server.old }
-{
-    let mut asked = not_given();
-    match server.ask_first(ONE, &HEAL_LOCK, Load::Nothing, &mut asked) {
-        Ok(_) => match server.ask_first(TWO, &WORK_LOCK, Load::Nothing, &mut asked) {
-            Ok(_) => matches!(asked.answer, Answer::Granted),
-            Err(_) => false,
-        },
         Err(_) => false,
     }
 }
@@ -187,33 +137,6 @@ fn a_first_line_meets_the_brick(rt: HostRuntime) {
 }
 
 #[test]
-fn an_object_that_is_not_there_is_told(rt: HostRuntime) {
-    let held = match server_with(rt.alloc(), &[]) {
-        Some(mut server) => lacks_the_object(&mut server),
-        None => false,
-    };
-    assert!(rt; held);
-}
-
-#[test]
-fn without_a_session_nothing_is_carried_out(rt: HostRuntime) {
-    let held = match server_with(rt.alloc(), &[]) {
-        Some(mut server) => refuses_without_a_session(&mut server),
-        None => false,
-    };
-    assert!(rt; held);
-}
-
-#[test]
-fn a_planned_failure_is_told(rt: HostRuntime) {
-    let held = match server_with(rt.alloc(), &[of_first(Fault::Fail)]) {
-        Some(mut server) => fails_once(&mut server),
-        None => false,
-    };
-    assert!(rt; held);
-}
-
-#[test]
 fn a_lost_answer_ends_the_session(rt: HostRuntime) {
     let held = match server_with(rt.alloc(), &[of_first(Fault::Lost)]) {
         Some(mut server) => loses_the_answer_and_the_session(&mut server),
@@ -226,15 +149,6 @@ fn a_lost_answer_ends_the_session(rt: HostRuntime) {
 fn a_lock_in_the_way_names_its_owner(rt: HostRuntime) {
     let held = match server_with(rt.alloc(), &[]) {
         Some(mut server) => waits_for_its_holder(&mut server),
-        None => false,
-    };
-    assert!(rt; held);
-}
-
-#[test]
-fn a_heal_lock_is_not_in_the_way_of_work(rt: HostRuntime) {
-    let held = match server_with(rt.alloc(), &[]) {
-        Some(mut server) => locks_beside_a_heal(&mut server),
         None => false,
     };
     assert!(rt; held);

@@ -1,5 +1,5 @@
 //! Three bricks, the second of which refuses its first request: each call once.
-ghost use Rattle.std.specs.Prelude.{◌≡◌, ◌≤◌, IfSome, length};
+ghost use Rattle.std.specs.Prelude.{◌≡◌, ◌≤◌, IfSome};
 ghost use Rattle.afr_test_server.specs.Servers.Fresh.{AreFresh};
 
 use afr_base::{ActorId, BrickId, Gfid, Shape};
@@ -74,26 +74,12 @@ fn not_given() -> Served {
     }
 }
 
-fn saw(asked: &Served) -> bool {
-    asked.took && matches!(asked.answer, Answer::Seen(_))
-}
-
 fn failed(asked: &Served) -> bool {
     !asked.took && matches!(asked.answer, Answer::Failed)
 }
 
 fn is_first_at_each(epochs: &Epochs) -> bool {
     epochs.of[0] == Some(1) && epochs.of[1] == Some(1) && epochs.of[2] == Some(1)
-}
-
-fn meets_all_by_a_first_line(servers: &mut Servers) -> bool
-    requires { AreFresh servers.old }
-{
-    let mut asked = not_given();
-    match servers.ask_first(ACTOR, FIRST, &LOOK, Load::Nothing, &mut asked) {
-        Ok(epochs) => saw(&asked) && is_first_at_each(&epochs) && epochs.of[3].is_none(),
-        Err(_) => false,
-    }
 }
 
 fn is_refused_as_planned(servers: &mut Servers) -> bool
@@ -137,15 +123,6 @@ fn stops_one_brick(servers: &mut Servers) -> bool
     servers.event(&Event::Stop(SECOND));
     let left = servers.started();
     all && !left.has(SECOND) && left.has(FIRST) && !servers.is_up(SECOND) && servers.is_up(FIRST)
-}
-
-#[test]
-fn a_first_line_meets_every_brick(rt: HostRuntime) {
-    let held = match servers_of(rt.alloc()) {
-        Some(mut servers) => meets_all_by_a_first_line(&mut servers),
-        None => false,
-    };
-    assert!(rt; held);
 }
 
 #[test]

@@ -74,14 +74,6 @@ const OF_FIVE: [([Seen; 5], Want); 6] = [
     ([ALONE, CLEAN, CLEAN, CLEAN, FIFTH], Want::Split),
 ];
 
-/// Where the arbiter accuses brick 1 of data and brick 0 of entries: arbiter or not, kind, sources.
-const OF_KINDS: [(bool, Kind, [bool; 5]); 4] = [
-    (true, Kind::Names, [false, true, true, false, false]),
-    (true, Kind::Bytes, [true, false, false, false, false]),
-    (false, Kind::Bytes, [true, false, true, false, false]),
-    (true, Kind::Attrs, [true, true, true, false, false]),
-];
-
 fn looked(seen: &[Seen]) -> Looked
     requires { length seen.now ≤ 5 }
 {
@@ -171,23 +163,6 @@ fn the_arbiter_holds_attributes_and_data_numbers_are_of_data_alone(rt: HostRunti
     assert!(rt; holders(&seen) == two);
     assert!(rt; good(&three(true), &seen, Kind::Attrs) == two);
     assert!(rt; good(&three(false), &seen, Kind::Bytes) == BrickSet::all(1));
-}
-
-/// Whether these are the sources where the arbiter accuses one brick of data and one of entries.
-fn has_sources(arbiter: bool, kind: Kind, sources: &[bool; 5]) -> bool {
-    let mut seen = looked(&[CLEAN, CLEAN, CLEAN]);
-    let data = accusing([0, 1, 0, 0, 0]);
-    let entries = accusing([1, 0, 0, 0, 0]);
-    seen.note(BrickId(2), Some(view(data, entries)));
-    judge(&Shape { n: 3, arbiter }, &seen, kind) == Verdict::Sources(set(sources))
-}
-
-#[test]
-fn an_arbiter_accuses_and_is_a_source_of_names_but_of_no_bytes(rt: HostRuntime) {
-    for (arbiter, kind, sources) in &OF_KINDS {
-        let holds = has_sources(*arbiter, *kind, sources);
-        assert!(rt; holds, "at {kind:?}");
-    }
 }
 
 #[test]

@@ -98,38 +98,25 @@ fn tells_the_stop_alone(log: &Log) -> bool {
     stop && log.told_at(0).is_none() && log.told_at(1).is_none() && log.told_at(3).is_none()
 }
 
-/// The log of one line that is given.
-fn of_one(alloc: Global) -> Result<Log, NoMemory> {
-    let mut lines = Vec::new(alloc);
-    lines.push(Line::Event {
-        event: Event::Start(BrickId(4)),
-    })?;
-    Log::of(alloc, lines)
+/// Whether the log shows each line as it was added, and who was waited for.
+fn shows_each(log: &Log) -> bool {
+    log.len() == 3
+        && shows_the_lock(log)
+        && shows_the_number(log)
+        && tells_the_stop_alone(log)
+        && log.line(3).is_none()
+        && log.waits_at(0) == Some(ActorId(2))
+        && log.waits_at(2).is_none()
+}
+
+fn is_shown(alloc: Global) -> Result<bool, NoMemory> {
+    let log = written(alloc)?;
+    Ok(shows_each(&log))
 }
 
 #[test]
 fn each_line_is_shown_as_it_was_added(rt: HostRuntime) -> Result<(), Fail> {
-    let log = written(rt.alloc()).ok().ok_or("memory")?;
-    assert!(rt; log.len() == 3);
-    assert!(rt; shows_the_lock(&log));
-    assert!(rt; shows_the_number(&log));
-    assert!(rt; tells_the_stop_alone(&log));
-    assert!(rt; log.line(3).is_none());
-    assert!(rt; log.waits_at(0) == Some(ActorId(2)));
-    assert!(rt; log.waits_at(2).is_none());
-    Ok(())
-}
-
-#[test]
-fn a_log_is_made_of_lines(rt: HostRuntime) -> Result<(), Fail> {
-    let log = of_one(rt.alloc()).ok().ok_or("memory")?;
-    assert!(rt; log.len() == 1);
-    let start = matches!(
-        log.told_at(0),
-        Some(ToldLine::Kept(Line::Event {
-            event: Event::Start(BrickId(4)),
-        }))
-    );
-    assert!(rt; start);
+    let shown = is_shown(rt.alloc()).ok().ok_or("memory")?;
+    assert!(rt; shown);
     Ok(())
 }

@@ -48,25 +48,3 @@ fn the_whole_directory_is_in_the_way_of_each_name(rt: HostRuntime) {
     let gone = gives_way(&mut locks);
     assert!(rt; gone);
 }
-
-/// Owner 1 locks a name of this many other directories.
-fn locks_others(locks: &mut NameLocks, count: u16) -> bool {
-    for i in 0..count {
-        let other = Gfid(u128::from(i) + 2);
-        if locks.lock(ActorId(1), Domain::Work, other, Some(NameId(0))) != Ok(Got::Granted) {
-            return false;
-        }
-    }
-    true
-}
-
-#[test]
-fn locks_on_other_directories_change_no_answer(rt: HostRuntime) {
-    let mut locks = NameLocks::new(rt.alloc());
-    let filled = locks_others(&mut locks, 10_000);
-    assert!(rt; filled);
-    let named = gets_each(&mut locks);
-    assert!(rt; named);
-    let gone = gives_way(&mut locks);
-    assert!(rt; gone);
-}
