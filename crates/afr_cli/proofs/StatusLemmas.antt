@@ -18,7 +18,7 @@ use Rattle.afr_words.specs.declared.form.Form.TheVariants as kind
 use Rattle.afr_gen.specs.Generated.{generated}
 use Rattle.afr_cli.specs.Forms.{text_of}
 use Rattle.afr_cli.specs.Reading.{WasRead}
-use Rattle.afr_cli.specs.Statuses.{IsOver, AreReading, IsPlanOf, IsPlanned, IsText, IsRefused, IsRefusal, IsSpelled, Reports, StopsWriting, refusal_line, usage_line}
+use Rattle.afr_cli.specs.Statuses.{IsOver, AreReading, IsPlanOf, IsPlanOfWords, IsText, IsRefused, IsRefusal, IsSpelled, Reports, StopsWriting, refusal_line, usage_line}
 
 -- before a plan was handed in nothing was written, in any order
 pub nothing_ordered : (v : State) → v ≡ no_volume → IsOrdered v.plan v.log
@@ -55,7 +55,7 @@ reports words form left left' taken taken' now asked planned text = record { for
 
 -- where a plan was run, it is the plan of the form that the words ask for
 pub planned_or_none : (words : List (String Global)) (form : Form) (left left' : Option (List ℕ)) (now : State)
-    → AskFor words form → (now ≡ no_volume) ⊎ IsPlanOf form left left' now.plan → (now ≡ no_volume) ⊎ IsPlanned words left left' now.plan
+    → AskFor words form → (now ≡ no_volume) ⊎ IsPlanOf form left left' now.plan → (now ≡ no_volume) ⊎ IsPlanOfWords words left left' now.plan
 planned_or_none words form left left' now asked (inl none) = inl none
 planned_or_none words form left left' now asked (inr planned) = inr (record { form = form; asked = asked; planned = planned })
 

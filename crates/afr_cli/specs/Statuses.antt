@@ -59,7 +59,7 @@ IsPlanOf (kind.Replay turns) left now plan = IsImagePlan turns left now plan
 IsPlanOf form left now plan = IsSpelled left now plan
 
 -- the words ask for a form, and this is its plan
-pub record IsPlanned (words : List (String Global)) (left now : Option (List ℕ)) (plan : Plan) : Type 0 where
+pub record IsPlanOfWords (words : List (String Global)) (left now : Option (List ℕ)) (plan : Plan) : Type 0 where
   pub form : Form
   pub asked : AskFor words form
   pub planned : IsPlanOf form left now plan

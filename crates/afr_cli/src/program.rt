@@ -18,7 +18,7 @@ ghost use Rattle.afr_words.specs.Forms.{AreForm, AreRefused, AskCheck, AskFor};
 ghost use Rattle.afr_cli.specs.Checking.{HasPartFault, HasTrace, IsChecked, IsGivenCheck, IsPartRefused, IsToldOf};
 ghost use Rattle.afr_cli.specs.Forms.{is_replay, reads, text_of};
 ghost use Rattle.afr_cli.specs.Replay.{AreReplay, HasImageFault, IsDifference, IsGivenReplay, IsImageRefusal, Repeats, image_refusal_line};
-ghost use Rattle.afr_cli.specs.Statuses.{AreDone, HasFault, AreGiven, IsFull, IsPlanOf, IsPlanned, IsRefusal, IsShort, IsSpelled, IsWorkLeft, Reports, StopsWriting, refusal_line, usage_line};
+ghost use Rattle.afr_cli.specs.Statuses.{AreDone, HasFault, AreGiven, IsFull, IsPlanOf, IsPlanOfWords, IsRefusal, IsShort, IsSpelled, IsWorkLeft, Reports, StopsWriting, refusal_line, usage_line};
 
 use crate::checking::read_and_check;
 use crate::generated::make_and_run;
@@ -114,7 +114,7 @@ pub fn afr_top<S: Source, K: Sink, F: Fn(&[Candidate]) -> usize, G: Fn(&[Candida
         → IsToldOf plan trace result (K.taken sink.old) (K.taken sink.new) ⊎ (result ≡ 5) ⊎ (result ≡ 6) }
 
     // At every status.
-    ensures plan { (volume.new ≡ no_volume) ⊎ IsPlanned words.now (S.left source.old) (S.left source.new) volume.new.plan }
+    ensures plan { (volume.new ≡ no_volume) ⊎ IsPlanOfWords words.now (S.left source.old) (S.left source.new) volume.new.plan }
     ensures plain { volume.new.crawl ≡ false }
     ensures others { ((AreForm words.now → ⊥) → (AskCheck words.now → ⊥) → (result ≡ 2) ⊎ (result ≡ 5) ⊎ (result ≡ 6)) × (AreRefused words.now → (result ≡ 2) ⊎ (result ≡ 5)) }
     ensures few { (result ≡ 0) ⊎ (result ≡ 2) ⊎ (result ≡ 3) ⊎ (result ≡ 4) ⊎ (result ≡ 5) ⊎ (result ≡ 6) ⊎ (result ≡ 7) ⊎ (result ≡ 9) ⊎ (result ≡ 10) ⊎ (result ≡ 11) ⊎ (result ≡ 12) }

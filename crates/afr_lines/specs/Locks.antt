@@ -13,9 +13,9 @@ same_domain Work Work = true
 same_domain Heal Heal = true
 same_domain one other = false
 
--- the range from one number up to another shares a number with the range from start up to end
+-- the range from one number up to another shares a number with the range from start up to end: each begins before the other ends, and has one
 abbrev pub share_number : ℕ → ℕ → ℕ → ℕ → Bool
-share_number from to start end = nat_lt from end && nat_lt start to
+share_number from to start end = nat_lt from end && nat_lt start to && nat_lt from to && nat_lt start end
 
 -- a number is in the range from one number up to another, and in the range from start up to end
 abbrev pub IsInBoth : ℕ → ℕ → ℕ → ℕ → Type 0

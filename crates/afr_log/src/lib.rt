@@ -7,6 +7,7 @@ mod id;
 mod log;
 mod marked;
 mod packed;
+mod packing;
 mod shown;
 mod small;
 mod waits;

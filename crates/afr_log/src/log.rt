@@ -10,7 +10,8 @@ ghost use Rattle.afr_log.specs.Log.{asked_line, shown_line, told_line, unasked, 
 use crate::asked::{Asker, unpack};
 use crate::heals::pack_line;
 use crate::marked::pack_shown;
-use crate::packed::{By, Packed, pack, short_of};
+use crate::packed::{By, Packed, short_of};
+use crate::packing::pack;
 use crate::shown::{ShownLine, ToldLine, show};
 use crate::waits::{entry_asks, entry_unasked, entry_waits};
 use afr_base::{ActorId, BrickId, NoMemory};

@@ -28,7 +28,7 @@ impl Lockable for ObjectRange {
     ghost at = { place_of };
 
     fn overlaps(&self, other: &ObjectRange) -> bool {
-        self.gfid.0 == other.gfid.0 && self.from < other.to && other.from < self.to
+        self.gfid.0 == other.gfid.0 && shares_number(self, other)
     }
 
     fn is_same(&self, other: &ObjectRange) -> bool {
@@ -127,9 +127,16 @@ impl RangeLocks {
     }
 }
 
+/// Whether each of two ranges begins before the other ends, and has a number.
+fn shares_number(one: &ObjectRange, other: &ObjectRange) -> bool
+    ensures { result ≡ share_number one.from one.to other.from other.to }
+{
+    one.from < other.to && other.from < one.to && one.from < one.to && other.from < other.to
+}
+
 /// What it means that two ranges share a number.
 pub fn ranges_share_a_number()
-    ensures { (from to start end : ℕ) → from < to → start < end → (share_number from to start end ≡ true) ↔ IsInBoth from to start end }
+    ensures { (from to start end : ℕ) → (share_number from to start end ≡ true) ↔ IsInBoth from to start end }
 {}
 
 fn range_lock(owner: ActorId, domain: Domain, g: Gfid, from: u64, to: u64) -> HeldLock<ObjectRange>

@@ -2,7 +2,7 @@
 ghost use Rattle.std.specs.Prelude.{◌≡◌, true, false, filter, IfSome, IfNone, OnOk, ◌∷◌, [], ◌++◌};
 ghost use Rattle.afr_model.specs.Locks.{granted_by_line, outlives, releases};
 ghost use Rattle.afr_lines.specs.Overlap.{overlap, same_area};
-ghost use Rattle.afr_lines.specs.Locks.{same_name, share_name, conflicts, first_conflict, same_domain};
+ghost use Rattle.afr_lines.specs.Locks.{same_name, share_name, share_number, conflicts, first_conflict, same_domain};
 
 use crate::sessions::ends_session;
 use afr_base::{ActorId, BrickId, Gfid, NameId, NoMemory};
@@ -156,9 +156,16 @@ fn meets_range(area: &Area, g: Gfid, start: u64, end: u64) -> bool
     ensures { result ≡ overlap (Area.Range g start end) area.now }
 {
     match area {
-        Area::Range { gfid, from, to } => g == *gfid && start < *to && *from < end,
+        Area::Range { gfid, from, to } => g == *gfid && share_number(start, end, *from, *to),
         Area::Name { .. } => false,
     }
+}
+
+/// Whether each of two ranges begins before the other ends, and has a number.
+fn share_number(from: u64, to: u64, start: u64, end: u64) -> bool
+    ensures { result ≡ share_number from to start end }
+{
+    from < end && start < to && from < to && start < end
 }
 
 fn meets_name(area: &Area, g: Gfid, one: Option<NameId>) -> bool
