@@ -53,3 +53,25 @@ fn the_first_in_the_way_is_named(rt: HostRuntime) {
     let gone = gives_way(&mut locks);
     assert!(rt; gone);
 }
+
+/// Owner 1 locks the same range of this many other files: more than stand in a row.
+fn locks_others(locks: &mut RangeLocks, count: u16) -> bool {
+    for i in 0..count {
+        let other = Gfid(u128::from(i) + 2);
+        if locks.lock(ActorId(1), Domain::Work, other, 0, 5) != Ok(Got::Granted) {
+            return false;
+        }
+    }
+    true
+}
+
+#[test]
+fn locks_on_other_files_change_no_answer(rt: HostRuntime) {
+    let mut locks = RangeLocks::new(rt.alloc());
+    let filled = locks_others(&mut locks, 10_000);
+    assert!(rt; filled);
+    let named = gets_each(&mut locks);
+    assert!(rt; named);
+    let gone = gives_way(&mut locks);
+    assert!(rt; gone);
+}
