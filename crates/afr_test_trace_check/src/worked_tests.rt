@@ -1,4 +1,4 @@
-//! Worked traces are right whole and keep the discipline; a move that breaks it is found at its line.
+//! Worked traces are right whole and keep the discipline; a line that breaks a rule is found. A plan past the limit isn't checked.
 
 use crate::built::{ended_by, log_of, plan_of};
 use crate::worked::{
@@ -24,17 +24,47 @@ fn a_worked_trace_keeps_every_rule(rt: HostRuntime) -> Result<(), Fail> {
     Ok(())
 }
 
+/// An event or a request that isn't due, and an end too many.
 #[test]
-fn another_heal_than_the_next_is_not_planned(rt: HostRuntime) -> Result<(), Fail> {
-    for (text, at, line) in [
-        ("23 h1 b0 lock heal g1[0,end) granted", 23, 23),
-        ("24 h1 b1 lock heal g1[0,end) lost", 24, 24),
-        ("29 h1 begin heal data f1", 29, 29),
+fn what_the_plan_does_not_have_is_found(rt: HostRuntime) -> Result<(), Fail> {
+    for (text, line) in [
+        ("3 c1 b0 name g9/f1 ok", 3),
+        ("4 c1 b0 name g1/f1 ok", 4),
+        ("22 c1 end ok", 22),
+        ("22 h1 b1 index ok", 22),
+        ("23 h1 b0 lock heal g1[0,end) granted", 23),
+        ("24 h1 b1 lock heal g1[0,end) lost", 24),
+        ("29 h1 begin heal data f1", 29),
     ] {
-        let trace = ended_by(rt.alloc(), lost_answer_trace(), at, text)?;
+        let trace = ended_by(rt.alloc(), lost_answer_trace(), line as usize, text)?;
         let other = found(rt.alloc(), lost_answer(), trace.as_str())?;
         let rule = Rule::Follows;
         assert!(rt; other == Ok(Finding::No { line, rule }), "{text}");
+    }
+    Ok(())
+}
+
+/// Whether a plan with this command isn't checked, since it may leave a file that is too long.
+fn is_past_limit(alloc: Global, command: &str) -> Result<bool, Fail> {
+    let mut plan = String::new(alloc);
+    plan.push_str("afr 1\nvolume replica\nfiles 1\nturns 100\nclient 1\n")?;
+    plan.push_str(command)?;
+    plan.push_str("\nend\n")?;
+    let found = found(alloc, plan.as_str(), "")?;
+    Ok(found == Err(CheckStop::Limit))
+}
+
+#[test]
+fn a_file_may_end_at_1024_and_not_past_it(rt: HostRuntime) -> Result<(), Fail> {
+    for (command, past) in [
+        ("write /f1 1023 \"x\"", false),
+        ("cut /f1 1024", false),
+        ("read /f1 5000 5000", false),
+        ("write /f1 1020 \"hello\"", true),
+        ("cut /f1 1025", true),
+    ] {
+        let is_past = is_past_limit(rt.alloc(), command)?;
+        assert!(rt; is_past == past, "{command}");
     }
     Ok(())
 }
