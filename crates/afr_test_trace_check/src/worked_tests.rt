@@ -24,13 +24,12 @@ fn a_worked_trace_keeps_every_rule(rt: HostRuntime) -> Result<(), Fail> {
     Ok(())
 }
 
-/// An event or a request that isn't due, and an end too many.
+/// A name in another directory or asked once more, another brick's index, another object's lock, and another heal.
 #[test]
 fn what_the_plan_does_not_have_is_found(rt: HostRuntime) -> Result<(), Fail> {
     for (text, line) in [
         ("3 c1 b0 name g9/f1 ok", 3),
         ("4 c1 b0 name g1/f1 ok", 4),
-        ("22 c1 end ok", 22),
         ("22 h1 b1 index ok", 22),
         ("23 h1 b0 lock heal g1[0,end) granted", 23),
         ("24 h1 b1 lock heal g1[0,end) lost", 24),
