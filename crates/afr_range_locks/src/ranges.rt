@@ -129,7 +129,7 @@ impl RangeLocks {
 
 /// Whether each of two ranges begins before the other ends, and has a number.
 fn shares_number(one: &ObjectRange, other: &ObjectRange) -> bool
-    ensures { result ≡ share_number one.from one.to other.from other.to }
+    ensures { result ≡ share_number one.now.from one.now.to other.now.from other.now.to }
 {
     one.from < other.to && other.from < one.to && one.from < one.to && other.from < other.to
 }
