@@ -9,7 +9,7 @@ fn a_cut_that_all_bricks_carry_out_is_acknowledged(rt: HostRuntime) {
     tells_three(&mut transaction, [Told::Done; 3]);
     assert!(rt;
         matches!(
-            asks(rt.alloc(), &transaction, 0),
+            asks(&transaction, 0),
             Some(Request::Apply { attempt: 10 })
         )
     );
