@@ -22,7 +22,7 @@ use Rattle.afr_discipline.specs.Tests.{may_ask_outside, may_move_outside}
 use Rattle.afr_discipline.specs.declared.register.Move.TheVariants as move
 use Rattle.afr_discipline.specs.declared.register.Register.{Register}
 use Rattle.afr_rule.specs.Choosing.{Calls}
-use Rattle.afr_discipline.specs.Free.{Allows, IsFree}
+use Rattle.afr_discipline.specs.Free.{Allows, IsFree, is_ask}
 use Rattle.afr_client_walk.specs.Looks.{no_look}
 use Rattle.afr_client_walk.specs.Walk.{IsWalk, walk_from}
 use Rattle.afr_object.specs.Tables.{root_entry}
@@ -139,7 +139,16 @@ never_begins (reading.Ending said) w change e = cc e
 -- ---- more is left
 read_more : (stage : LookupStage) (w : Walk) → asks_or_begins (lookup.next_at stage w) ≡ true → not (lookup.is_asking stage) ≡ false
 read_more (reading.Ending said) w e = absurd (cc e)
-read_more stage w e = refl
+read_more reading.Walking w e = refl
+read_more (reading.Looking s) w e = refl
+read_more (reading.Reading x of) w e = refl
+
+-- and a read that asks nobody is over
+pub read_over : (stage : LookupStage) (w : Walk) → is_ask (lookup.next_at stage w) ≡ false → not (lookup.is_asking stage) ≡ true
+read_over (reading.Ending said) w none = refl
+read_over reading.Walking w none = absurd (cc none)
+read_over (reading.Looking s) w none = absurd (cc none)
+read_over (reading.Reading x of) w none = absurd (cc none)
 
 -- where the next line is a request or a Begin line, more is left than the end
 more_left : (w : WorkMachine) (at : ℕ) → asks_or_begins (next_of at w) ≡ true → is_over w ≡ false

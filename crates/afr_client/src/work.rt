@@ -97,7 +97,8 @@ impl WorkMachine {
         ensures allowed { (change : Change) → result ≡ Ok (Some change) → Allows (register_of self.now) (Next.Begin change) }
     {
         match self {
-            WorkMachine::Idle | WorkMachine::Lookup(_) => Ok(None),
+            WorkMachine::Idle => Ok(None),
+            WorkMachine::Lookup(_) => Ok(None),
             WorkMachine::Write(machine) => machine.value.begins(at),
             WorkMachine::Entry(machine) => machine.value.begins(at),
             WorkMachine::Rename(machine) => machine.value.begins(at),
@@ -110,7 +111,8 @@ impl WorkMachine {
         ensures kept { IsWork self.new }
     {
         match self {
-            WorkMachine::Idle | WorkMachine::Lookup(_) => {}
+            WorkMachine::Idle => {}
+            WorkMachine::Lookup(_) => {}
             WorkMachine::Write(machine) => machine.value.begun(at),
             WorkMachine::Entry(machine) => machine.value.begun(at),
             WorkMachine::Rename(machine) => machine.value.begun(at),

@@ -211,7 +211,6 @@ fn begins(
     position: u32,
     log: &mut Log,
 )
-    requires next { next_of position actor.old.work ≡ Next.Begin change }
     requires known { a.0 < 20 }
     requires room { (b : ℕ) → At b servers.old (HasEpoch a) }
     requires space { log.old.room ≡ true }
