@@ -77,10 +77,5 @@ fn after_giving_up() -> Option<Request> {
 
 #[test]
 fn a_change_that_is_given_up_is_unlocked(rt: HostRuntime) {
-    assert!(rt;
-        matches!(
-            after_giving_up(),
-            Some(Request::Unlock { .. })
-        )
-    );
+    assert!(rt; matches!(after_giving_up(), Some(Request::Unlock { .. })));
 }

@@ -146,12 +146,7 @@ fn carried_out(alloc: Global) -> Option<(bool, Reply)> {
 
 #[test]
 fn an_attribute_is_carried_to_every_brick(rt: HostRuntime) {
-    assert!(rt;
-        matches!(
-            carried_out(rt.alloc()),
-            Some((true, Reply::Ok(Good::Done)))
-        )
-    );
+    assert!(rt; matches!(carried_out(rt.alloc()), Some((true, Reply::Ok(Good::Done)))));
 }
 
 fn the_file() -> Answer {

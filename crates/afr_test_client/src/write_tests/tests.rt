@@ -99,12 +99,7 @@ fn carried_out(alloc: Global) -> Option<(bool, Reply)> {
 
 #[test]
 fn a_write_that_all_bricks_carry_out_ends_well(rt: HostRuntime) {
-    assert!(rt;
-        matches!(
-            carried_out(rt.alloc()),
-            Some((true, Reply::Ok(Good::Done)))
-        )
-    );
+    assert!(rt; matches!(carried_out(rt.alloc()), Some((true, Reply::Ok(Good::Done)))));
 }
 
 /// How many bricks the register of a write has.
