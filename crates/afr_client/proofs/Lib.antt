@@ -1,4 +1,3 @@
 pub mod FiveLemmas
 pub mod PathLemmas
 pub mod WorkLemmas
-pub mod NeverHeals

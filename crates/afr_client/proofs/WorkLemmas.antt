@@ -1,8 +1,7 @@
 -- A work has somebody left to ask, the discipline allows what it asks, and its register notes it.
-use Rattle.std.proofs.Common.{◌≡◌, ℕ, ◌<◌, ◌≤◌, ◌==◌, ◌&&◌, nat_lt, not, Bool, true, false, List, length, refl, ap, subst, ◌∙◌, arith, inl, inr, if◌then◌else◌}
+use Rattle.std.proofs.Common.{◌≡◌, ℕ, ◌<◌, ◌≤◌, ◌==◌, nat_lt, not, Bool, true, false, List, length, refl, ap, subst, arith, inl, inr, if◌then◌else◌}
 use Rattle.std.proofs.lemmas.Bool.Decides.{nat_tests}
 use Rattle.std.specs.Borrow.{Bor}
-use Rattle.afr_base.specs.Bricks.{is_nothing}
 use Rattle.afr_base.specs.declared.ids.BrickId.{BrickId}
 use Rattle.afr_base.specs.declared.ids.NameId.{NameId}
 use Rattle.afr_base.specs.declared.ids.Shape.{Shape}
@@ -23,7 +22,7 @@ use Rattle.afr_discipline.specs.Tests.{may_ask_outside, may_move_outside}
 use Rattle.afr_discipline.specs.declared.register.Move.TheVariants as move
 use Rattle.afr_discipline.specs.declared.register.Register.{Register}
 use Rattle.afr_rule.specs.Choosing.{Calls}
-use Rattle.afr_discipline.specs.Free.{Allows, IsFree}
+use Rattle.afr_discipline.specs.Free.{Allows, IsFree, is_ask}
 use Rattle.afr_client_walk.specs.Looks.{no_look}
 use Rattle.afr_client_walk.specs.Walk.{IsWalk, walk_from}
 use Rattle.afr_object.specs.Tables.{root_entry}
@@ -32,26 +31,19 @@ use Rattle.afr_client_walk.specs.declared.walk.WalkStep.TheVariants as walking
 use Rattle.afr_client_walk.specs.Choosing.{reader_of}
 use Rattle.afr_client_walk.proofs.ChoosingLemmas.{answers_among}
 use Rattle.afr_discipline.proofs.FreeLemmas.{allows_end, shape_is}
-use Rattle.afr_client_transaction.specs.Outcome.{outcome_of, reply_of}
-use Rattle.afr_client_transaction.specs.Progress as progress
-use Rattle.afr_client_transaction.specs.Progress.{TransactionProgress, asks}
-use Rattle.afr_client_transaction.specs.declared.stage.Stage.{Stage}
-use Rattle.afr_client_transaction.specs.declared.stage.Stage.TheVariants.{Closing, Locking}
+use Rattle.afr_client_transaction.specs.Progress.{asks}
+use Rattle.afr_client_transaction.proofs.Kept.{asks_or_begins}
 use Rattle.afr_client_transaction.proofs.Parts.{both}
-use Rattle.afr_client_entry.specs.Removals.Removal as removal
 use Rattle.afr_client_entry.specs.Removals.Removal.{Removing}
-use Rattle.afr_client_entry.specs.declared.removing.stage.RemovalStage.{RemovalStage}
-use Rattle.afr_client_entry.specs.declared.removing.stage.RemovalStage.TheVariants as removing
 use Rattle.afr_client_entry.specs.Entry as entry
-use Rattle.afr_client_entry.specs.Entry.{IsEntry, reads_name}
-use Rattle.afr_client_entry.specs.Job.{reply_to}
+use Rattle.afr_client_entry.specs.Entry.{IsEntry}
 use Rattle.afr_client_entry.specs.declared.job.EntryJob.{EntryJob}
 use Rattle.afr_client_entry.specs.declared.job.EntryJob.TheVariants as name
 use Rattle.afr_client_entry.specs.declared.stage.EntryStage.{EntryStage}
 use Rattle.afr_client_entry.specs.declared.stage.EntryStage.TheVariants as entering
-use Rattle.afr_client_entry.specs.declared.stage.Found.{Found}
-use Rattle.afr_client_entry.specs.declared.stage.Found.TheVariants as found
 use Rattle.afr_client_entry.proofs.EntryLemmas as entry_lemmas
+use Rattle.afr_client_entry.proofs.NextLemmas as next_lemmas
+pub use Rattle.afr_client_entry.proofs.NextLemmas.{same_under}
 use Rattle.afr_client_read.specs.Lookup as lookup
 use Rattle.afr_client_read.specs.Lookup.{Lookup as LookupValue, asked_at}
 use Rattle.afr_client_read.specs.declared.stage.LookupStage.{LookupStage}
@@ -66,16 +58,15 @@ use Rattle.afr_client_write.specs.declared.stage.WriteStage.{WriteStage}
 use Rattle.afr_client_write.specs.declared.stage.WriteStage.TheVariants as writing
 use Rattle.afr_client_write.proofs.WriteLemmas as write_lemmas
 use Rattle.afr_client.specs.Laws.{AllowedNext, AsksLow, AsksMore, BeginsFresh, BeginsMore, FedIsAnswered, HasFew, NotesBegin, NotesEach, StaysOutside, StaysSound}
-use Rattle.afr_client_entry.specs.Renames.Against.{half_reply}
-use Rattle.afr_client_entry.specs.Renames.Paths.{front, last, reads_new, reads_old}
+use Rattle.afr_client_entry.specs.Renames.Paths.{front, last}
 use Rattle.afr_client_entry.specs.Renames.Rename as rename
-use Rattle.afr_client_entry.specs.Renames.Rename.{IsRename, is_done, turned}
-use Rattle.afr_client_entry.specs.Renames.Under.{next_under}
+use Rattle.afr_client_entry.specs.Renames.Rename.{IsRename}
 use Rattle.afr_client_entry.specs.declared.renaming.paths.Paths.{Paths}
 use Rattle.afr_client_entry.specs.declared.renaming.stage.RenameStage.{RenameStage}
 use Rattle.afr_client_entry.specs.declared.renaming.stage.RenameStage.TheVariants as renaming
 use Rattle.afr_client_entry.proofs.Renames.RenameLemmas as rename_lemmas
-use Rattle.afr_client.specs.Work.{choices_heard, idle_register, register_of}
+use Rattle.afr_client.specs.Work.{choices_heard, idle_register, is_over, next_of, register_of}
+use Rattle.afr_client.specs.declared.work.WorkMachine.{WorkMachine}
 use Rattle.afr_client.specs.declared.work.WorkMachine.TheVariants.{Idle, Lookup, Write, Entry, Rename}
 
 -- ---- the first register
@@ -138,14 +129,6 @@ ask_same P b c r q e h = subst (λ (x : Request). P c x) (ap request_in e) (subs
     request_in (next.Ask d s) = s
     request_in other = r
 
--- a read that asks somebody asks what its stage names
-pub asking_at : (stage : LookupStage) (w : Walk) (b : BrickId) (request : Request) → lookup.next_at stage w ≡ next.Ask b request
-    → (lookup.is_asking stage ≡ true) × (next.Ask (asked_at stage w).0 (asked_at stage w).1 ≡ next.Ask b request)
-asking_at reading.Walking w b request e = (refl, e)
-asking_at (reading.Looking s) w b request e = (refl, e)
-asking_at (reading.Reading x of) w b request e = (refl, e)
-asking_at (reading.Ending said) w b request e = absurd (cc e)
-
 -- a read begins nothing
 pub never_begins : (stage : LookupStage) (w : Walk) (change : Change) → lookup.next_at stage w ≡ next.Begin change → ⊥
 never_begins reading.Walking w change e = cc e
@@ -154,148 +137,32 @@ never_begins (reading.Reading x of) w change e = cc e
 never_begins (reading.Ending said) w change e = cc e
 
 -- ---- more is left
-transaction_asks : (stage : Stage) (t : TransactionProgress) (at : ℕ) (b : BrickId) (request : Request) → progress.next_at stage at t ≡ next.Ask b request → progress.is_over stage t ≡ false
-transaction_asks Closing t at b request e = go (is_nothing t.register.held) e
-  where
-    go : (none : Bool) → (if none then next.End (reply_of t.change t.register) else asks Closing t) ≡ next.Ask b request → none ≡ false
-    go true e = absurd (cc e)
-    go false e = refl
-transaction_asks stage t at b request e = refl
+read_more : (stage : LookupStage) (w : Walk) → asks_or_begins (lookup.next_at stage w) ≡ true → not (lookup.is_asking stage) ≡ false
+read_more (reading.Ending said) w e = absurd (cc e)
+read_more reading.Walking w e = refl
+read_more (reading.Looking s) w e = refl
+read_more (reading.Reading x of) w e = refl
 
-transaction_begins : (stage : Stage) (t : TransactionProgress) (at : ℕ) (change : Change) → progress.next_at stage at t ≡ next.Begin change → progress.is_over stage t ≡ false
-transaction_begins Closing t at change e = go (is_nothing t.register.held) e
-  where
-    go : (none : Bool) → (if none then next.End (reply_of t.change t.register) else asks Closing t) ≡ next.Begin change → none ≡ false
-    go true e = absurd (cc e)
-    go false e = refl
-transaction_begins stage t at change e = refl
+-- and a read that asks nobody is over
+pub read_over : (stage : LookupStage) (w : Walk) → is_ask (lookup.next_at stage w) ≡ false → not (lookup.is_asking stage) ≡ true
+read_over (reading.Ending said) w none = refl
+read_over reading.Walking w none = absurd (cc none)
+read_over (reading.Looking s) w none = absurd (cc none)
+read_over (reading.Reading x of) w none = absurd (cc none)
 
-write_asks : (stage : WriteStage) (w : Walk) (at : ℕ) (b : BrickId) (request : Request) → write.next_at at stage w ≡ next.Ask b request → write.is_over stage ≡ false
-write_asks (writing.Walking j) w at b request e = refl
-write_asks (writing.Changing t) w at b request e = transaction_asks t.stage t at b request e
-write_asks (writing.Ending said) w at b request e = absurd (cc e)
+-- where the next line is a request or a Begin line, more is left than the end
+more_left : (w : WorkMachine) (at : ℕ) → asks_or_begins (next_of at w) ≡ true → is_over w ≡ false
+more_left Idle at e = absurd (cc e)
+more_left (Lookup m) at e = read_more m.stage m.walk e
+more_left (Write m) at e = write_lemmas.more_left m.stage m.walk at e
+more_left (Entry m) at e = next_lemmas.more_left m.stage m.job m.walk at e
+more_left (Rename m) at e = next_lemmas.rename_more m.stage m.paths at e
 
-write_begins : (stage : WriteStage) (w : Walk) (at : ℕ) (change : Change) → write.next_at at stage w ≡ next.Begin change → write.is_over stage ≡ false
-write_begins (writing.Walking j) w at change e = refl
-write_begins (writing.Changing t) w at change e = transaction_begins t.stage t at change e
-write_begins (writing.Ending said) w at change e = absurd (cc e)
-
--- under the locks of a name, where a transaction is to begin its attempt, more is left
-beginning_more : (stage : Stage) (t : TransactionProgress) → progress.is_beginning stage ≡ true → progress.is_over stage t ≡ false
-beginning_more Closing t e = absurd (cc e)
-beginning_more stage t e = refl
-
-under_asks : (of : Found) (asked : Request) (t : TransactionProgress) (at : ℕ) (b : BrickId) (request : Request) → next_under of at asked t ≡ next.Ask b request → progress.is_over t.stage t ≡ false
-under_asks (found.Unread c) asked t at b request e = go (progress.is_beginning t.stage) refl e
-  where
-    go : (begins : Bool) → progress.is_beginning t.stage ≡ begins → (if begins then next.Ask c asked else progress.next_at t.stage at t) ≡ next.Ask b request → progress.is_over t.stage t ≡ false
-    go true f e = beginning_more t.stage t f
-    go false f e = transaction_asks t.stage t at b request e
-under_asks found.Fits asked t at b request e = transaction_asks t.stage t at b request e
-under_asks (found.Refused why) asked t at b request e = go (progress.is_over t.stage t) e
-  where
-    go : (over : Bool) → (if over then next.End (reply_to why) else progress.next_at t.stage at t) ≡ next.Ask b request → over ≡ false
-    go true e = absurd (cc e)
-    go false e = refl
-
-under_begins : (of : Found) (asked : Request) (t : TransactionProgress) (at : ℕ) (change : Change) → next_under of at asked t ≡ next.Begin change → progress.is_over t.stage t ≡ false
-under_begins (found.Unread c) asked t at change e = go (progress.is_beginning t.stage) e
-  where
-    go : (begins : Bool) → (if begins then next.Ask c asked else progress.next_at t.stage at t) ≡ next.Begin change → progress.is_over t.stage t ≡ false
-    go true e = absurd (cc e)
-    go false e = transaction_begins t.stage t at change e
-under_begins found.Fits asked t at change e = transaction_begins t.stage t at change e
-under_begins (found.Refused why) asked t at change e = go (progress.is_over t.stage t) e
-  where
-    go : (over : Bool) → (if over then next.End (reply_to why) else progress.next_at t.stage at t) ≡ next.Begin change → over ≡ false
-    go true e = absurd (cc e)
-    go false e = refl
-
-removal_asks : (stage : RemovalStage) (m : Removing) (b : BrickId) (request : Request) → removal.next_at stage m ≡ next.Ask b request → removal.is_over stage m ≡ false
-removal_asks (removing.Closing why) m b request e = go (is_nothing (removal.left (removing.Closing why) m)) e
-  where
-    go : (none : Bool) → (if none then next.End (removal.reply_of why m.register) else removal.asks (removing.Closing why) m) ≡ next.Ask b request → none ≡ false
-    go true e = absurd (cc e)
-    go false e = refl
-removal_asks stage m b request e = refl
-
-removal_begins : (stage : RemovalStage) (m : Removing) (change : Change) → removal.next_at stage m ≡ next.Begin change → removal.is_over stage m ≡ false
-removal_begins (removing.Closing why) m change e = go (is_nothing (removal.left (removing.Closing why) m)) e
-  where
-    go : (none : Bool) → (if none then next.End (removal.reply_of why m.register) else removal.asks (removing.Closing why) m) ≡ next.Begin change → none ≡ false
-    go true e = absurd (cc e)
-    go false e = refl
-removal_begins stage m change e = refl
-
--- under the locks of its name a command asks as a rename does
-pub same_under : (of : Found) (j : EntryJob) (w : Walk) (t : TransactionProgress) (at : ℕ) → next_under of at (reads_name j w) t ≡ entry.next_under of at j w t
-same_under (found.Unread c) j w t at = refl
-same_under found.Fits j w t at = refl
-same_under (found.Refused why) j w t at = refl
-
-entry_asks : (stage : EntryStage) (j : EntryJob) (w : Walk) (at : ℕ) (b : BrickId) (request : Request) → entry.next_at at stage j w ≡ next.Ask b request → entry.is_over stage ≡ false
-entry_asks entering.Walking j w at b request e = refl
-entry_asks (entering.Changing t of) j w at b request e = under_asks of (reads_name j w) t at b request (same_under of j w t at ∙ e)
-entry_asks (entering.Removes m) j w at b request e = removal_asks m.stage m b request e
-entry_asks (entering.Ending said) j w at b request e = absurd (cc e)
-
-entry_begins : (stage : EntryStage) (j : EntryJob) (w : Walk) (at : ℕ) (change : Change) → entry.next_at at stage j w ≡ next.Begin change → entry.is_over stage ≡ false
-entry_begins entering.Walking j w at change e = refl
-entry_begins (entering.Changing t of) j w at change e = under_begins of (reads_name j w) t at change (same_under of j w t at ∙ e)
-entry_begins (entering.Removes m) j w at change e = removal_begins m.stage m change e
-entry_begins (entering.Ending said) j w at change e = absurd (cc e)
-
--- the first transaction of a rename, once it is over, is followed by the second
-not_done : (over done : Bool) → (done ≡ false → over ≡ false) → (over && not done) ≡ false
-not_done true true h = refl
-not_done true false h = h refl
-not_done false done h = refl
-
-rename_asks : (stage : RenameStage) (x : Paths) (at : ℕ) (b : BrickId) (request : Request) → rename.next_at at stage x ≡ next.Ask b request → rename.is_over stage ≡ false
-rename_asks renaming.Finding x at b request e = refl
-rename_asks renaming.Walking x at b request e = refl
-rename_asks (renaming.Making t of) x at b request e = not_done (progress.is_over t.stage t) (is_done t) (go (is_done t) e)
-  where
-    go : (done : Bool) → (if done then progress.next_at Locking at (turned x t) else next_under of at (reads_new x) t) ≡ next.Ask b request → done ≡ false → progress.is_over t.stage t ≡ false
-    go true e f = absurd (cc f)
-    go false e f = under_asks of (reads_new x) t at b request e
-rename_asks (renaming.Removing t of) x at b request e = go (progress.is_over t.stage t) e
-  where
-    go : (over : Bool) → (if over then next.End (half_reply (outcome_of t.change t.register)) else next_under of at (reads_old x) t) ≡ next.Ask b request → over ≡ false
-    go true e = absurd (cc e)
-    go false e = refl
-rename_asks (renaming.Ending said) x at b request e = absurd (cc e)
-
-rename_begins : (stage : RenameStage) (x : Paths) (at : ℕ) (change : Change) → rename.next_at at stage x ≡ next.Begin change → rename.is_over stage ≡ false
-rename_begins renaming.Finding x at change e = absurd (cc e)
-rename_begins renaming.Walking x at change e = absurd (cc e)
-rename_begins (renaming.Making t of) x at change e = not_done (progress.is_over t.stage t) (is_done t) (go (is_done t) e)
-  where
-    go : (done : Bool) → (if done then progress.next_at Locking at (turned x t) else next_under of at (reads_new x) t) ≡ next.Begin change → done ≡ false → progress.is_over t.stage t ≡ false
-    go true e f = absurd (cc f)
-    go false e f = under_begins of (reads_new x) t at change e
-rename_begins (renaming.Removing t of) x at change e = go (progress.is_over t.stage t) e
-  where
-    go : (over : Bool) → (if over then next.End (half_reply (outcome_of t.change t.register)) else next_under of at (reads_old x) t) ≡ next.Begin change → over ≡ false
-    go true e = absurd (cc e)
-    go false e = refl
-rename_begins (renaming.Ending said) x at change e = absurd (cc e)
-
--- where the next line is a request, more is left than the end
 pub asks_more : AsksMore
-asks_more Idle at b request e = absurd (cc e)
-asks_more (Lookup m) at b request e = ap not (asking_at m.stage m.walk b request e).0
-asks_more (Write m) at b request e = write_asks m.stage m.walk at b request e
-asks_more (Entry m) at b request e = entry_asks m.stage m.job m.walk at b request e
-asks_more (Rename m) at b request e = rename_asks m.stage m.paths at b request e
+asks_more w at b request e = more_left w at (ap asks_or_begins e)
 
--- and where it is a Begin line
 pub begins_more : BeginsMore
-begins_more Idle at change e = absurd (cc e)
-begins_more (Lookup m) at change e = absurd (never_begins m.stage m.walk change e)
-begins_more (Write m) at change e = write_begins m.stage m.walk at change e
-begins_more (Entry m) at change e = entry_begins m.stage m.job m.walk at change e
-begins_more (Rename m) at change e = rename_begins m.stage m.paths at change e
+begins_more w at change e = more_left w at (ap asks_or_begins e)
 
 -- ---- what is heard
 asking : (b : Bool) → not b ≡ false → b ≡ true
@@ -319,7 +186,7 @@ fed_is_answered calls choose of old new k = record { chosen = reader_of k.picked
 read_notes : (m : LookupValue) (at : ℕ) (b : BrickId) (request : Request) → lookup.next_of m ≡ next.Ask b request → (chosen : BrickId) (a : Answer)
     → (lookup.answered chosen a at m).walk.register ≡ noted_ask m.walk.register at b.0 request (told_by a)
 read_notes m at b request e chosen a =
-    let asks_it = asking_at m.stage m.walk b request e in
+    let asks_it = read.asking_at m.stage m.walk b request e in
     ask_same (λ (x : BrickId) (q : Request). (lookup.answered chosen a at m).walk.register ≡ noted_ask m.walk.register at x.0 q (told_by a)) (asked_at m.stage m.walk).0 b (asked_at m.stage m.walk).1 request asks_it.1
     (read.notes_each m asks_it.0 chosen a at)
 

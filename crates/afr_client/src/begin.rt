@@ -19,28 +19,8 @@ use afr_object::{Chunk, TryCopy};
 use afr_plan::{Command, NamePath};
 use std::alloc::Global;
 
-/// Whether a command is carried out by a machine: all but a command on the last name of a path that has no name, which a rename
-/// is on both its paths.
-pub fn has_machine(command: &Command) -> bool
-    ensures { result ≡ has_machine command.now }
-{
-    match command {
-        Command::Create { path } => has_name(path),
-        Command::Mkdir { path } => has_name(path),
-        Command::Unlink { path } => has_name(path),
-        Command::Rmdir { path } => has_name(path),
-        Command::Rename { from, to } => has_name(from) && has_name(to),
-        _ => true,
-    }
-}
-
-fn has_name(path: &NamePath) -> bool
-    ensures { result ≡ has_name path.now }
-{
-    path.len() > 0
-}
-
-/// The machine of a command, before its first line.
+/// The machine of a command, before its first line. All have one but a command on the last name of a path that has no name, which
+/// a rename is on both its paths.
 pub fn work_for(alloc: Global, shape: Shape, command: &Command) -> Result<WorkMachine, NoMemory>
     requires few { shape.n ≤ 5 }
     requires some { 0 < shape.n }

@@ -6,7 +6,7 @@ mod laws;
 mod on_heap;
 mod work;
 
-pub use begin::{has_machine, work_for};
+pub use begin::work_for;
 pub use laws::{a_work_keeps_five_places, a_work_reads_good_copies, a_work_stays_sound};
 pub use on_heap::OnHeap;
 pub use work::WorkMachine;

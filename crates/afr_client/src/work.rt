@@ -1,20 +1,19 @@
 //! The machine of a client's present command: its next line, and what it makes of the answer.
-ghost use Rattle.std.specs.Prelude.{◌≡◌, ◌<◌, ◌≤◌, IfOk, None, Some, false};
+ghost use Rattle.std.specs.Prelude.{◌≡◌, ℕ, ◌<◌, ◌≤◌, None, Ok, Some, false, true};
 ghost use Rattle.afr_discipline.specs.Stands.{HasFive};
 ghost use Rattle.afr_rule.specs.Choosing.{IsRule};
 ghost use Rattle.afr_client_walk.specs.Choosing.{RuleAnswers, reader_of};
 ghost use Rattle.afr_discipline.specs.Free.{Allows, is_ask};
-ghost use Rattle.afr_client.specs.Work.{CarriesNext, IsBusy, IsWork, choices_of, heard_by, is_idle, is_over, next_of, register_of};
+ghost use Rattle.afr_client.specs.Work.{CarriesNext, IsWork, choices_of, heard_by, is_idle, is_over, next_of, register_of};
 
 use crate::on_heap::OnHeap;
 use afr_base::{BrickId, NoMemory};
 use afr_client_entry::{EntryMachine, RenameMachine};
 use afr_client_read::LookupMachine;
 use afr_client_write::WriteMachine;
-use afr_discipline::{Register, has_five};
-use afr_lines::{Answer, Heard, Next, Request};
-use afr_object::Load;
-use afr_rule::shipped::first;
+use afr_discipline::has_five;
+use afr_lines::{Answer, Heard, Next, Reply, Request};
+use afr_object::{Change, Load};
 use afr_rule::{Candidate, ReadRule};
 
 /// The machine of a client's present command, if it has begun. It is on the heap: a work is moved often, and most machines
@@ -36,47 +35,18 @@ impl WorkMachine {
         matches!(self, WorkMachine::Idle)
     }
 
-    /// Whether nothing is left but the End line, or no command has begun.
-    pub fn is_over(&self) -> bool
-        ensures { result ≡ is_over self.now }
-    {
-        match self {
-            WorkMachine::Idle => true,
-            WorkMachine::Lookup(machine) => machine.value.is_over(),
-            WorkMachine::Write(machine) => machine.value.is_over(),
-            WorkMachine::Entry(machine) => machine.value.is_over(),
-            WorkMachine::Rename(machine) => machine.value.is_over(),
-        }
-    }
-
-    /// The next line, for this position of the log. Only what a Begin or End line copies takes memory.
-    pub fn next(&self, at: u32) -> Result<Next, NoMemory>
-        requires busy { IsBusy self.now }
-        ensures ok { IfOk result (λ next. next ≡ next_of at self.now) }
-        ensures allowed { IfOk result (λ next. Allows (register_of self.now) next) }
-    {
-        match self {
-            WorkMachine::Idle => unreachable!(),
-            WorkMachine::Lookup(machine) => machine.value.next(at),
-            WorkMachine::Write(machine) => machine.value.next(at),
-            WorkMachine::Entry(machine) => machine.value.next(at),
-            WorkMachine::Rename(machine) => machine.value.next(at),
-        }
-    }
-
     /// Whom the next line asks, where it is a request; that is written where it is to stand, for it is large.
-    pub fn asks(&self, at: u32, request: &mut Request) -> Option<BrickId>
-        requires busy { IsBusy self.now }
-        ensures some { (b : BrickId) → result ≡ Some b → next_of at self.now ≡ Next.Ask b request.new }
-        ensures none { result ≡ None → is_ask (next_of at self.now) ≡ false }
+    pub fn asks(&self, request: &mut Request) -> Option<BrickId>
+        ensures some { (b : BrickId) → result ≡ Some b → (at : ℕ) → next_of at self.now ≡ Next.Ask b request.new }
+        ensures none { result ≡ None → (at : ℕ) → is_ask (next_of at self.now) ≡ false }
         ensures allowed { (b : BrickId) → result ≡ Some b → Allows (register_of self.now) (Next.Ask b request.new) }
     {
         match self {
-            WorkMachine::Idle => unreachable!(),
-            WorkMachine::Lookup(machine) => machine.value.asks(at, request),
-            WorkMachine::Write(machine) => machine.value.asks(at, request),
-            WorkMachine::Entry(machine) => machine.value.asks(at, request),
-            WorkMachine::Rename(machine) => machine.value.asks(at, request),
+            WorkMachine::Idle => None,
+            WorkMachine::Lookup(machine) => machine.value.asks(request),
+            WorkMachine::Write(machine) => machine.value.asks(request),
+            WorkMachine::Entry(machine) => machine.value.asks(request),
+            WorkMachine::Rename(machine) => machine.value.asks(request),
         }
     }
 
@@ -104,14 +74,13 @@ impl WorkMachine {
         rule: &ReadRule<G>,
     ) -> Option<BrickId>
         requires rule { IsRule G.Fn rule.now }
-        requires more { is_over self.old ≡ false }
         requires asked { next_of at self.old ≡ Next.Ask brick request.now }
         ensures picked { RuleAnswers G.Fn rule.now (choices_of answer.old at self.old) result }
         ensures value { self.new ≡ heard_by (reader_of result) (Heard.Answer answer.old at) self.old }
         ensures kept { IsWork self.new }
     {
         let picked = match self {
-            WorkMachine::Idle => unreachable!(),
+            WorkMachine::Idle => None,
             WorkMachine::Lookup(machine) => machine.value.hear(brick, request, answer, at, rule),
             WorkMachine::Write(machine) => machine.value.hear(brick, request, answer, at, rule),
             WorkMachine::Entry(machine) => machine.value.hear(brick, request, answer, at, rule),
@@ -121,34 +90,48 @@ impl WorkMachine {
         picked
     }
 
-    /// The Begin line was written at this position. It asks no rule, so that the machines may be handed any.
+    /// The change of the next line, where that is a Begin line at this position. Its copy takes memory.
+    pub fn begins(&self, at: u32) -> Result<Option<Change>, NoMemory>
+        ensures some { (change : Change) → result ≡ Ok (Some change) → next_of at self.now ≡ Next.Begin change }
+        ensures none { result ≡ Ok None → is_ask (next_of at self.now) ≡ false → is_over self.now ≡ true }
+        ensures allowed { (change : Change) → result ≡ Ok (Some change) → Allows (register_of self.now) (Next.Begin change) }
+    {
+        match self {
+            WorkMachine::Idle => Ok(None),
+            WorkMachine::Lookup(_) => Ok(None),
+            WorkMachine::Write(machine) => machine.value.begins(at),
+            WorkMachine::Entry(machine) => machine.value.begins(at),
+            WorkMachine::Rename(machine) => machine.value.begins(at),
+        }
+    }
+
+    /// The Begin line was written at this position. It asks no rule.
     pub fn begun(&mut self, at: u32)
-        requires more { is_over self.old ≡ false }
         ensures value { self.new ≡ heard_by (reader_of None) (Heard.Begun at) self.old }
         ensures kept { IsWork self.new }
     {
-        let rule = ReadRule::new(first);
         match self {
-            WorkMachine::Idle => unreachable!(),
-            WorkMachine::Lookup(machine) => machine.value.feed(Heard::Begun(at), &rule),
-            WorkMachine::Write(machine) => machine.value.feed(Heard::Begun(at), &rule),
-            WorkMachine::Entry(machine) => machine.value.feed(Heard::Begun(at), &rule),
-            WorkMachine::Rename(machine) => machine.value.feed(Heard::Begun(at), &rule),
+            WorkMachine::Idle => {}
+            WorkMachine::Lookup(_) => {}
+            WorkMachine::Write(machine) => machine.value.begun(at),
+            WorkMachine::Entry(machine) => machine.value.begun(at),
+            WorkMachine::Rename(machine) => machine.value.begun(at),
         }
         self.stays_sound();
     }
 
-    /// What the lines so far show.
-    pub fn register(&self) -> &Register
-        requires busy { IsBusy self.now }
-        ensures { result.now ≡ register_of self.now }
+    /// The reply, where the next line is the end. Only what it copies takes memory.
+    pub fn end(&self) -> Result<Option<Reply>, NoMemory>
+        ensures some { (reply : Reply) → result ≡ Ok (Some reply) → (at : ℕ) → next_of at self.now ≡ Next.End reply }
+        ensures none { result ≡ Ok None → is_over self.now ≡ false }
+        ensures allowed { (reply : Reply) → result ≡ Ok (Some reply) → Allows (register_of self.now) (Next.End reply) }
     {
         match self {
-            WorkMachine::Idle => unreachable!(),
-            WorkMachine::Lookup(machine) => machine.value.register(),
-            WorkMachine::Write(machine) => machine.value.register(),
-            WorkMachine::Entry(machine) => machine.value.register(),
-            WorkMachine::Rename(machine) => machine.value.register(),
+            WorkMachine::Idle => Ok(Some(Reply::Failed)),
+            WorkMachine::Lookup(machine) => machine.value.end(),
+            WorkMachine::Write(machine) => machine.value.end(),
+            WorkMachine::Entry(machine) => machine.value.end(),
+            WorkMachine::Rename(machine) => machine.value.end(),
         }
     }
 

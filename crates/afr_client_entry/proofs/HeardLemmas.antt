@@ -1,6 +1,5 @@
 -- What a command on a name hears is an answer to what its next line has asked.
-use Rattle.std.proofs.Common.{◌≡◌, ◌⊎◌, ℕ, ◌<◌, Bool, true, false, [], None, inl, inr, refl, ap, subst, sym, ◌∙◌, if◌then◌else◌}
-use Rattle.afr_base.specs.Bricks.{is_nothing}
+use Rattle.std.proofs.Common.{◌≡◌, ◌⊎◌, ℕ, ◌<◌, Bool, true, false, [], inl, inr, refl, ap, subst, sym, ◌∙◌, if◌then◌else◌}
 use Rattle.afr_base.specs.declared.ids.BrickId.{BrickId}
 use Rattle.afr_base.specs.declared.ids.Kind.TheVariants.{Names}
 use Rattle.afr_lines.specs.Told.{told_by}
@@ -10,12 +9,8 @@ use Rattle.afr_lines.specs.declared.line.Next.TheVariants as next
 use Rattle.afr_lines.specs.declared.request.Request.{Request}
 use Rattle.afr_lines.specs.declared.line.Heard.TheVariants as heard
 use Rattle.afr_lines.specs.Areas.{kind_for}
-use Rattle.afr_rule.specs.Choosing.{Calls}
-use Rattle.afr_discipline.specs.Free.{is_ask}
 use Rattle.afr_client_walk.specs.declared.walk.Walk.{Walk}
-use Rattle.afr_client_walk.specs.Choosing.{reader_of}
 use Rattle.afr_client_transaction.specs.Between.{is_read, noted_read}
-use Rattle.afr_client_transaction.specs.Outcome.{reply_of}
 use Rattle.afr_client_transaction.specs.Progress as progress
 use Rattle.afr_client_transaction.specs.Progress.{TransactionProgress, answered, asks, fed, is_beginning, told_to}
 use Rattle.afr_client_transaction.specs.declared.stage.Stage.{Stage}
@@ -23,11 +18,7 @@ use Rattle.afr_client_transaction.specs.declared.stage.Stage.TheVariants.{Lockin
 use Rattle.afr_client_transaction.proofs.NoteLemmas.{fed_change}
 use Rattle.afr_client_entry.specs.Removals.Removal as removal
 use Rattle.afr_client_entry.specs.Removals.Removal.{Removing}
-use Rattle.afr_client_entry.specs.declared.removing.stage.RemovalStage.{RemovalStage}
-use Rattle.afr_client_entry.specs.declared.removing.stage.RemovalStage.TheVariants as removing
-use Rattle.afr_client_entry.specs.declared.stage.EntryStage.{EntryStage}
-use Rattle.afr_client_entry.specs.declared.stage.EntryStage.TheVariants.{Walking, Changing, Removes, Ending}
-use Rattle.afr_client_entry.specs.Entry.{Entering, IsChanging, IsFed, choices_removing, choices_under, found_after, found_by, is_over, name_noted, next_at, next_of, next_under, offered, progress_after, reads_name, removal_after, settled}
+use Rattle.afr_client_entry.specs.Entry.{IsChanging, choices_removing, choices_under, found_after, found_by, is_over, name_noted, next_at, next_under, offered, progress_after, reads_name, removal_after, settled}
 use Rattle.afr_client_entry.specs.Job.{reply_to, ruled_out}
 use Rattle.afr_client_entry.specs.declared.job.EntryJob.{EntryJob}
 use Rattle.afr_client_entry.specs.declared.refusal.Refusal.{Refusal}
@@ -190,87 +181,3 @@ removing_told chosen m a at f = go (removal.is_beginning m.stage) f
     go : (s : Bool) → s ≡ false → removal.answered chosen m.stage a at m ≡ (if s then m else removal.answered chosen m.stage a at m)
     go true f = absurd (cc f)
     go false f = refl
-
--- ---- where nobody is asked
--- a transaction that isn't over and asks nobody is at its Begin line
-pub beginning_where : (stage : Stage) (t : TransactionProgress) (at : ℕ) → is_ask (progress.next_at stage at t) ≡ false → progress.is_over stage t ≡ false → is_beginning stage ≡ true
-beginning_where Locking t at none more = absurd (cc none)
-beginning_where Looking t at none more = absurd (cc none)
-beginning_where Beginning t at none more = refl
-beginning_where Preparing t at none more = absurd (cc none)
-beginning_where Applying t at none more = absurd (cc none)
-beginning_where Posting t at none more = absurd (cc none)
-beginning_where Closing t at none more = go (is_nothing t.register.held) none more
-  where
-    go : (over : Bool) → is_ask (if over then next.End (reply_of t.change t.register) else asks Closing t) ≡ false → over ≡ false → false ≡ true
-    go true none more = absurd (cc more)
-    go false none more = absurd (cc none)
-
-removal_where : (stage : RemovalStage) (m : Removing) → is_ask (removal.next_at stage m) ≡ false → removal.is_over stage m ≡ false → removal.is_beginning stage ≡ true
-removal_where removing.Locking m none more = absurd (cc none)
-removal_where removing.Looking m none more = absurd (cc none)
-removal_where removing.Listing m none more = absurd (cc none)
-removal_where removing.Beginning m none more = refl
-removal_where removing.Preparing m none more = absurd (cc none)
-removal_where removing.Applying m none more = absurd (cc none)
-removal_where removing.Posting m none more = absurd (cc none)
-removal_where (removing.Closing why) m none more = go (removal.is_over (removing.Closing why) m) none more
-  where
-    go : (over : Bool) → is_ask (if over then next.End (removal.reply_of why m.register) else removal.asks (removing.Closing why) m) ≡ false → over ≡ false → false ≡ true
-    go true none more = absurd (cc more)
-    go false none more = absurd (cc none)
-
--- there an answer changes nothing
-untold : (told : Told) (at : ℕ) (t : TransactionProgress) → is_beginning t.stage ≡ true → t ≡ told_to told at t
-untold told at t f = go (is_beginning t.stage) f
-  where
-    go : (s : Bool) → s ≡ true → t ≡ (if s then t else fed t.stage told at t)
-    go true f = refl
-    go false f = absurd (cc f)
-
-unread_none : (t : TransactionProgress) (w : Walk) (j : EntryJob) (reader : BrickId) (at : ℕ) → is_ask (next_under (Unread reader) at j w t) ≡ false → progress.is_over t.stage t ≡ false → ⊥
-unread_none t w j reader at none more = go (is_beginning t.stage) refl none
-  where
-    go : (s : Bool) → is_beginning t.stage ≡ s → is_ask (if s then next.Ask reader (reads_name j w) else progress.next_at t.stage at t) ≡ false → ⊥
-    go true f none = absurd (cc none)
-    go false f none = let g = beginning_where t.stage t at none more in absurd (cc (f, g))
-
-refused_none : (t : TransactionProgress) (w : Walk) (j : EntryJob) (why : Refusal) (at : ℕ) → is_ask (next_under (Refused why) at j w t) ≡ false → progress.is_over t.stage t ≡ false → is_beginning t.stage ≡ true
-refused_none t w j why at none more = go (progress.is_over t.stage t) more none
-  where
-    go : (s : Bool) → s ≡ false → is_ask (if s then next.End (reply_to why) else progress.next_at t.stage at t) ≡ false → is_beginning t.stage ≡ true
-    go true f none = absurd (cc f)
-    go false f none = beginning_where t.stage t at none more
-
-no_choice : (r : Removing) (a : Answer) (at : ℕ) → removal.is_beginning r.stage ≡ true → choices_removing a at r ≡ []
-no_choice r a at f = go (removal.is_beginning r.stage) f
-  where
-    go : (s : Bool) → s ≡ true → (if s then [] else removal.choices_at r.stage a at r) ≡ []
-    go true f = refl
-    go false f = absurd (cc f)
-
-unremoved : (chosen : BrickId) (r : Removing) (a : Answer) (at : ℕ) → removal.is_beginning r.stage ≡ true → r ≡ removal_after chosen a at r
-unremoved chosen r a at f = go (removal.is_beginning r.stage) f
-  where
-    go : (s : Bool) → s ≡ true → r ≡ (if s then r else removal.answered chosen r.stage a at r)
-    go true f = refl
-    go false f = absurd (cc f)
-
-pub unheard : {F : Type 0} (calls : Calls F) (choose : F) (m : Entering) (a : Answer) (at : ℕ) → is_ask (next_of at m) ≡ false → is_over m.stage ≡ false → IsFed calls choose (heard.Answer a at) m m
-unheard calls choose m a at none more = go m.stage none more
-  where
-    go : (stage : EntryStage) → is_ask (next_at at stage m.job m.walk) ≡ false → is_over stage ≡ false
-        → IsFed calls choose (heard.Answer a at) (record { walk = m.walk; job = m.job; stage = stage }) (record { walk = m.walk; job = m.job; stage = stage })
-    go Walking none more = absurd (cc none)
-    go (Changing t (Unread reader)) none more = absurd (unread_none t m.walk m.job reader at none more)
-    go (Changing t Fits) none more =
-        record { picked = None; answers = refl; value = ap (λ (x : TransactionProgress). record { walk = m.walk; job = m.job; stage = Changing x Fits }) (untold (told_by a) at t (beginning_where t.stage t at none more)) }
-    go (Changing t (Refused why)) none more =
-        record { picked = None; answers = refl; value = ap (λ (x : TransactionProgress). record { walk = m.walk; job = m.job; stage = Changing x (Refused why) }) (untold (told_by a) at t (refused_none t m.walk m.job why at none more)) }
-    go (Removes r) none more =
-        record {
-          picked = None;
-          answers = no_choice r a at (removal_where r.stage r none more);
-          value = ap (λ (x : Removing). record { walk = m.walk; job = m.job; stage = Removes x }) (unremoved (reader_of None) r a at (removal_where r.stage r none more));
-        }
-    go (Ending said) none more = absurd (cc more)

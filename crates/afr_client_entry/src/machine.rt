@@ -1,21 +1,20 @@
 //! The machine of one command on a name: what it asks next, and what it makes of the answers.
-ghost use Rattle.std.specs.Prelude.{None, Some, ◌≡◌, ℕ, ◌<◌, ◌≤◌, IfOk, false, true};
-ghost use Rattle.afr_client_entry.specs.Entry.{CarriesNext, IsEntry, IsFed, answered, choices_at, entry_from, is_over, next_of, next_under, reads_name, register_of, stage_begun};
+ghost use Rattle.std.specs.Prelude.{None, Ok, Some, ◌≡◌, ℕ, ◌<◌, ◌≤◌, IfOk, false, true};
+ghost use Rattle.afr_client_entry.specs.Entry.{CarriesNext, IsEntry, answered, choices_at, entry_from, is_over, next_of, next_under, reads_name, register_of, stage_begun};
 ghost use Rattle.afr_rule.specs.Choosing.{IsRule};
 ghost use Rattle.afr_client_walk.specs.Choosing.{RuleAnswers, reader_of};
 ghost use Rattle.afr_client_transaction.specs.Progress.{is_beginning};
 ghost use Rattle.afr_discipline.specs.Free.{Allows, is_ask};
-ghost use Rattle.afr_client_walk.specs.Walk.{IsWalk, is_walking, next_in};
 
 use crate::job::EntryJob;
-use crate::refusal::reply_to;
 use crate::stage::{EntryStage, Found, left_by, reads_name, stage_begun, stage_heard};
+use crate::under::{begins_under, end_under};
 use afr_base::{BrickId, NameId, NoMemory, Shape};
 use afr_client_transaction::Transaction;
 use afr_client_walk::Walk;
 use afr_discipline::Register;
-use afr_lines::{Answer, Heard, KeptReply, Next, Request};
-use afr_object::Load;
+use afr_lines::{Answer, KeptReply, Next, Reply, Request};
+use afr_object::{Change, Load};
 use afr_rule::{Candidate, ReadRule};
 use std::alloc::Global;
 use std::marker::Model;
@@ -61,28 +60,10 @@ impl EntryMachine {
         })
     }
 
-    /// Takes the memory of the coming move: `next` takes it, before anything changes.
-    pub fn ready(&mut self) -> Result<(), NoMemory>
-        ensures { self.new ≡ self.old }
-    {
-        let _ = &self.walk;
-        Ok(())
-    }
-
-    /// The next line, for this position of the log. Only the views in an End line take memory.
-    pub fn next(&self, position: u32) -> Result<Next, NoMemory>
-        ensures value { IfOk result (λ next. next ≡ next_of position self.now) }
-        ensures allowed { IfOk result (λ next. Allows (register_of self.now) next) }
-    {
-        let line = self.line(position)?;
-        self.stays_sound();
-        Ok(line)
-    }
-
     /// Whom the next line asks, where it is a request; that is written where it is to stand, for it is large.
-    pub fn asks(&self, _position: u32, request: &mut Request) -> Option<BrickId>
-        ensures some { (b : BrickId) → result ≡ Some b → next_of _position self.now ≡ Next.Ask b request.new }
-        ensures none { result ≡ None → is_ask (next_of _position self.now) ≡ false }
+    pub fn asks(&self, request: &mut Request) -> Option<BrickId>
+        ensures some { (b : BrickId) → result ≡ Some b → (at : ℕ) → next_of at self.now ≡ Next.Ask b request.new }
+        ensures none { result ≡ None → (at : ℕ) → is_ask (next_of at self.now) ≡ false }
         ensures allowed { (b : BrickId) → result ≡ Some b → Allows (register_of self.now) (Next.Ask b request.new) }
     {
         self.stays_sound();
@@ -100,34 +81,58 @@ impl EntryMachine {
         }
     }
 
-    /// The line was written, and the brick has answered. Once all copies of a directory were looked at the rule picks the one
-    /// that is read. An End line isn't fed.
-    pub fn feed<G: Fn(&[Candidate]) -> usize>(&mut self, heard: Heard, rule: &ReadRule<G>)
+    /// This request was written, and the brick has answered. Once all copies of a directory were looked at the rule picks the
+    /// one that is read; this is what it has picked now.
+    pub fn hear<G: Fn(&[Candidate]) -> usize>(
+        &mut self,
+        brick: BrickId,
+        request: &Request,
+        answer: &Answer,
+        at: u32,
+        rule: &ReadRule<G>,
+    ) -> Option<BrickId>
         requires rule { IsRule G.Fn rule.now }
-        requires more { is_over self.old.stage ≡ false }
-        ensures { IsFed G.Fn rule.now heard self.old self.new }
+        requires asked { next_of at self.old ≡ Next.Ask brick request.now }
+        ensures picked { RuleAnswers G.Fn rule.now (choices_at self.old.stage answer.now at self.old.walk) result }
+        ensures value { self.new ≡ answered (reader_of result) answer.now at self.old }
     {
-        match &heard {
-            Heard::Answer(answer, at) => {
-                let mut request = Request::Index;
-                if let Some(brick) = self.asks(*at, &mut request) {
-                    self.hear(brick, &request, answer, *at, rule);
-                }
-            }
-            Heard::Begun(at) => self.begin(*at),
-        }
+        stage_heard(
+            &mut self.walk,
+            self.job,
+            &mut self.stage,
+            brick,
+            request,
+            answer,
+            at,
+            rule,
+        )
     }
 
-    /// Whether the next line is the end.
-    pub fn is_over(&self) -> bool
-        ensures { result ≡ is_over self.now.stage }
+    /// The change of the next line, where that is a Begin line at this position. Its copy takes memory.
+    pub fn begins(&self, at: u32) -> Result<Option<Change>, NoMemory>
+        ensures some { (change : Change) → result ≡ Ok (Some change) → next_of at self.now ≡ Next.Begin change }
+        ensures none { result ≡ Ok None → is_ask (next_of at self.now) ≡ false → is_over self.now.stage ≡ true }
+        ensures allowed { (change : Change) → result ≡ Ok (Some change) → Allows (register_of self.now) (Next.Begin change) }
     {
-        match &self.stage {
-            EntryStage::Walking => false,
-            EntryStage::Changing(transaction, _) => transaction.is_over(),
-            EntryStage::Removes(removal) => removal.is_over(),
-            EntryStage::Ending(_) => true,
-        }
+        self.stays_sound();
+        self.change(at)
+    }
+
+    /// The Begin line was written at this position.
+    pub fn begun(&mut self, at: u32)
+        ensures { self.new ≡ record self.old { stage = stage_begun self.old.stage at } }
+    {
+        stage_begun(&mut self.stage, at);
+    }
+
+    /// The reply, where the next line is the end. Only the views of a split brain take memory.
+    pub fn end(&self) -> Result<Option<Reply>, NoMemory>
+        ensures some { (reply : Reply) → result ≡ Ok (Some reply) → (at : ℕ) → next_of at self.now ≡ Next.End reply }
+        ensures none { result ≡ Ok None → is_over self.now.stage ≡ false }
+        ensures allowed { (reply : Reply) → result ≡ Ok (Some reply) → Allows (register_of self.now) (Next.End reply) }
+    {
+        self.stays_sound();
+        self.reply()
     }
 
     /// What the lines so far show.
@@ -148,32 +153,12 @@ impl EntryMachine {
         let _ = &self.walk;
     }
 
-    fn line(&self, position: u32) -> Result<Next, NoMemory>
-        ensures { IfOk result (λ next. next ≡ next_of position self.now) }
-    {
-        match &self.stage {
-            EntryStage::Walking => Ok(walking(&self.walk)),
-            EntryStage::Changing(transaction, found) => {
-                changing(
-                    self.alloc,
-                    &self.walk,
-                    self.job,
-                    transaction,
-                    *found,
-                    position,
-                )
-            }
-            EntryStage::Removes(removal) => removal.next(self.alloc),
-            EntryStage::Ending(reply) => ending(self.alloc, reply),
-        }
-    }
-
     fn ask(&self, request: &mut Request) -> Option<BrickId>
         ensures some { (b : BrickId) → result ≡ Some b → (at : ℕ) → next_of at self.now ≡ Next.Ask b request.new }
         ensures none { result ≡ None → (at : ℕ) → is_ask (next_of at self.now) ≡ false }
     {
         match &self.stage {
-            EntryStage::Walking => Some(self.walk.asks(request)),
+            EntryStage::Walking => self.walk.asks(request),
             EntryStage::Changing(transaction, found) => {
                 change_asks(&self.walk, self.job, transaction, *found, request)
             }
@@ -182,49 +167,28 @@ impl EntryMachine {
         }
     }
 
-    /// This request was written, and the brick has answered. Once all copies of a directory were looked at the rule picks the
-    /// one that is read; this is what it has picked now.
-    pub fn hear<G: Fn(&[Candidate]) -> usize>(
-        &mut self,
-        brick: BrickId,
-        request: &Request,
-        answer: &Answer,
-        at: u32,
-        rule: &ReadRule<G>,
-    ) -> Option<BrickId>
-        requires rule { IsRule G.Fn rule.now }
-        requires more { is_over self.old.stage ≡ false }
-        requires asked { next_of at self.old ≡ Next.Ask brick request.now }
-        ensures picked { RuleAnswers G.Fn rule.now (choices_at self.old.stage answer.now at self.old.walk) result }
-        ensures value { self.new ≡ answered (reader_of result) answer.now at self.old }
+    fn change(&self, at: u32) -> Result<Option<Change>, NoMemory>
+        ensures some { (change : Change) → result ≡ Ok (Some change) → next_of at self.now ≡ Next.Begin change }
+        ensures none { result ≡ Ok None → is_ask (next_of at self.now) ≡ false → is_over self.now.stage ≡ true }
     {
-        stage_heard(
-            &mut self.walk,
-            self.job,
-            &mut self.stage,
-            brick,
-            request,
-            answer,
-            at,
-            rule,
-        )
+        match &self.stage {
+            EntryStage::Changing(transaction, found) => begins_under(transaction, *found, at),
+            EntryStage::Removes(removal) => removal.begins(),
+            _ => Ok(None),
+        }
     }
 
-    fn begin(&mut self, at: u32)
-        requires { is_over self.old.stage ≡ false }
-        ensures { self.new ≡ record self.old { stage = stage_begun self.old.stage at } }
+    fn reply(&self) -> Result<Option<Reply>, NoMemory>
+        ensures some { (reply : Reply) → result ≡ Ok (Some reply) → (at : ℕ) → next_of at self.now ≡ Next.End reply }
+        ensures none { result ≡ Ok None → is_over self.now.stage ≡ false }
     {
-        stage_begun(&mut self.stage, at);
+        match &self.stage {
+            EntryStage::Walking => Ok(None),
+            EntryStage::Changing(transaction, found) => end_under(self.alloc, transaction, *found),
+            EntryStage::Removes(removal) => removal.end(self.alloc),
+            EntryStage::Ending(reply) => ending(self.alloc, reply),
+        }
     }
-}
-
-fn walking(walk: &Walk) -> Next
-    requires walk { IsWalk walk.now }
-    requires walking { is_walking walk.now.step ≡ true }
-    ensures { result ≡ Next.Ask (next_in walk.now).0 (next_in walk.now).1 }
-{
-    let (brick, request) = walk.next();
-    Next::Ask(brick, request)
 }
 
 /// Whom the next line under the locks asks, where it is a request.
@@ -251,38 +215,11 @@ fn change_asks(
     }
 }
 
-/// The next line under the locks.
-fn changing(
-    alloc: Global,
-    walk: &Walk,
-    job: EntryJob,
-    transaction: &Transaction,
-    found: Found,
-    position: u32,
-) -> Result<Next, NoMemory>
-    requires { IsEntry walk.now job (EntryStage.Changing transaction.now found) }
-    ensures { IfOk result (λ next. next ≡ next_under found position job walk.now transaction.now) }
-{
-    match found {
-        Found::Unread(brick) => {
-            if transaction.is_beginning() {
-                return Ok(Next::Ask(brick, reads_name(job, walk)));
-            }
-            transaction.next(alloc, position)
-        }
-        Found::Fits => transaction.next(alloc, position),
-        Found::Refused(why) => {
-            if transaction.is_over() {
-                return Ok(Next::End(reply_to(why)));
-            }
-            transaction.next(alloc, position)
-        }
-    }
-}
-
-fn ending(alloc: Global, reply: &KeptReply) -> Result<Next, NoMemory>
-    ensures { IfOk result (λ next. next ≡ Next.End reply.now) }
+/// A reply that was kept until the end.
+pub(crate) fn ending(alloc: Global, reply: &KeptReply) -> Result<Option<Reply>, NoMemory>
+    ensures some { (said : Reply) → result ≡ Ok (Some said) → Next.End reply.now ≡ Next.End said }
+    ensures none { result ≡ Ok None → ⊥ }
 {
     let reply = reply.to_reply(alloc)?;
-    Ok(Next::End(reply))
+    Ok(Some(reply))
 }

@@ -94,7 +94,7 @@ fn child_in(job: EntryJob, entry: Entry) -> Option<Gfid>
 }
 
 /// The reply of a command that its refusal ends.
-pub fn reply_to(why: Refusal) -> Reply
+pub(crate) fn reply_to(why: Refusal) -> Reply
     ensures { result ≡ reply_to why }
 {
     match why {

@@ -1,6 +1,6 @@
 //! The stages of a command on a name, and what an answer makes of each.
 ghost use Rattle.std.specs.Prelude.{◌≡◌, ◌<◌, ◌≤◌, false, not, true};
-ghost use Rattle.afr_client_entry.specs.Entry.{IsEntry, IsToRemove, after_walk, at_directory, child_after, choices_at, choices_removing, choices_under, found_after, found_by, is_over, next_at, next_under, offered, progress_after, progress_begun, reads_name, removal_after, removal_begun, settled, stage_after, stage_begun, walk_after};
+ghost use Rattle.afr_client_entry.specs.Entry.{IsEntry, IsToRemove, after_walk, at_directory, child_after, choices_at, choices_removing, choices_under, found_after, found_by, is_over, next_at, next_under, offered, progress_after, reads_name, removal_after, settled, stage_after, stage_begun, walk_after};
 ghost use Rattle.afr_client_entry.specs.Job.{change_of, ruled_out};
 ghost use Rattle.afr_lines.specs.Areas.{kind_for};
 ghost use Rattle.afr_lines.specs.declared.line.Next.{Next};
@@ -17,6 +17,7 @@ ghost use Rattle.afr_client_walk.specs.Walk.{IsWalk, is_walking};
 use crate::job::{EntryJob, change_of, name_of};
 use crate::refusal::{Refusal, child_by, ruled_out};
 use crate::removing::Removal;
+use crate::under::begun_under;
 use afr_base::{BrickId, Gfid, Kind, What};
 use afr_client_transaction::Transaction;
 use afr_client_walk::{Walk, WalkStep, pick, reader_of, stop_reply};
@@ -213,7 +214,7 @@ fn removal_heard<G: Fn(&[Candidate]) -> usize>(
     ensures picked { RuleAnswers G.Fn rule.now (choices_removing answer.now at removal.old) result }
     ensures value { removal.new ≡ removal_after (reader_of result) answer.now at removal.old }
 {
-    removal.answer(brick, request, answer, at, rule)
+    removal.hear(brick, request, answer, at, rule)
 }
 
 /// The transaction hears an answer, of which the name's tells what the name was found to be. Beside that comes what the rule
@@ -333,29 +334,8 @@ pub(crate) fn stage_begun(stage: &mut EntryStage, at: u32)
     ensures { stage.new ≡ stage_begun stage.old at }
 {
     match stage {
-        EntryStage::Changing(transaction, found) => begun(*found, transaction, at),
-        EntryStage::Removes(removal) => removal_begun(removal, at),
+        EntryStage::Changing(transaction, found) => begun_under(transaction, *found, at),
+        EntryStage::Removes(removal) => removal.begun(at),
         _ => {}
-    }
-}
-
-fn begun(found: Found, transaction: &mut Transaction, at: u32)
-    ensures { transaction.new ≡ progress_begun found at transaction.old }
-{
-    match found {
-        Found::Unread(_) => {}
-        Found::Fits | Found::Refused(_) => {
-            if transaction.is_beginning() {
-                transaction.feed(&Told::Done, at);
-            }
-        }
-    }
-}
-
-fn removal_begun(removal: &mut Removal, at: u32)
-    ensures { removal.new ≡ removal_begun at removal.old }
-{
-    if removal.is_beginning() {
-        removal.begin(at);
     }
 }

@@ -124,6 +124,14 @@ allowed_at (Ending said) w k = allows_end w.shape w.register said k.sound.free
 pub allowed_next : AllowedNext
 allowed_next m k = allowed_at m.stage m.walk k
 
+-- a read that asks somebody asks what its stage names
+pub asking_at : (stage : LookupStage) (w : Walk) (b : BrickId) (request : Request) → next_at stage w ≡ next.Ask b request
+    → (is_asking stage ≡ true) × (next.Ask (asked_at stage w).0 (asked_at stage w).1 ≡ next.Ask b request)
+asking_at Walking w b request e = (refl, e)
+asking_at (Looking s) w b request e = (refl, e)
+asking_at (Reading c of) w b request e = (refl, e)
+asking_at (Ending said) w b request e = absurd (cc e)
+
 pair : (asked : BrickId × Request) (b : BrickId) (r : Request) → next.Ask asked.0 asked.1 ≡ next.Ask b r → asked ≡ (b, r)
 pair (c, q) b r e = cc e
 

@@ -22,6 +22,7 @@ use Rattle.afr_model_moves.specs.Register.{holder, rank, same_step}
 use Rattle.afr_discipline.specs.declared.register.Register.{Register}
 use Rattle.afr_discipline.specs.declared.register.Step.{Step}
 use Rattle.afr_discipline.specs.declared.register.Step.TheVariants as step
+use Rattle.afr_discipline.specs.Free.{is_ask}
 use Rattle.afr_discipline.specs.Tests.{suffices_by}
 use Rattle.afr_discipline.specs.Notes.{asked_at, noted_ask}
 use Rattle.afr_model_moves.specs.Keeps.{keeps_in}
@@ -248,17 +249,37 @@ pub fed_is : (m : TransactionProgress) (told : Told) (at b : ℕ) (q : Request) 
     → (record { change = m.change; register = x; stage = stage; asked = s }) ≡ answered m.stage told at m
 fed_is m told at b q x stage s eb eq ex es est = rw (est, es, ex, eq, eb) refl
 
--- where the next line is a request
-pub asks_next : (stage : Stage) (at : ℕ) (m : TransactionProgress) → (stage ≡ Beginning → ⊥) → (stage ≡ Closing → ⊥) → asks stage m ≡ next_at stage at m
-asks_next Locking at m away end = refl
-asks_next Looking at m away end = refl
-asks_next Beginning at m away end = absurd (away refl)
-asks_next Preparing at m away end = refl
-asks_next Applying at m away end = refl
-asks_next Posting at m away end = refl
-asks_next Closing at m away end = absurd (end refl)
+-- where the next line is neither a request nor a Begin line, no lock is left
+pub over_at : (stage : Stage) (at : ℕ) (m : TransactionProgress) → (stage ≡ Beginning → ⊥) → is_ask (next_at stage at m) ≡ false → is_over stage m ≡ true
+over_at Beginning at m away none = absurd (away refl)
+over_at Closing at m away none = go (is_nothing m.register.held) none
+  where
+    go : (over : Bool) → is_ask (if over then next.End (reply_of m.change m.register) else asks Closing m) ≡ false → over ≡ true
+    go true none = refl
+    go false none = absurd (cc none)
+over_at stage at m away none = absurd (cc none)
 
--- so is it wherever somebody is left to ask
+-- whether a line is a request or a Begin line
+abbrev pub asks_or_begins : Next → Bool
+asks_or_begins (next.Ask b q) = true
+asks_or_begins (next.Begin change) = true
+asks_or_begins other = false
+
+-- where the next line is one of these, more is left than the end
+pub more_left : (stage : Stage) (m : TransactionProgress) (at : ℕ) → asks_or_begins (next_at stage at m) ≡ true → is_over stage m ≡ false
+more_left Closing m at e = go (is_nothing m.register.held) e
+  where
+    go : (over : Bool) → asks_or_begins (if over then next.End (reply_of m.change m.register) else asks Closing m) ≡ true → over ≡ false
+    go true e = absurd (cc e)
+    go false e = refl
+more_left stage m at e = refl
+
+-- where none is left, the next line is the End line
+pub ends_at : (stage : Stage) (at : ℕ) (m : TransactionProgress) → is_over stage m ≡ true → next_at stage at m ≡ next.End (reply_of m.change m.register)
+ends_at Closing at m over = rw over refl
+ends_at stage at m over = absurd (cc over)
+
+-- whoever is left to ask is asked next
 pub some_left : (stage : Stage) (at : ℕ) (m : TransactionProgress) → is_nothing (left stage m) ≡ false → asks stage m ≡ next_at stage at m
 some_left Locking at m some = refl
 some_left Looking at m some = refl

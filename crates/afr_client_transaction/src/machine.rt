@@ -1,6 +1,6 @@
 //! One transaction: what it asks next, and what an answer leaves of it.
-ghost use Rattle.std.specs.Prelude.{[], ◌≡◌, ℕ, ◌<◌, ◌≤◌, ◌+◌, ◌^◌, ◌||◌, true, false, None, Some, IfOk};
-ghost use Rattle.afr_base.specs.Bricks.{is_nothing};
+ghost use Rattle.std.specs.Prelude.{[], ◌≡◌, ℕ, ◌<◌, ◌≤◌, ◌+◌, ◌^◌, ◌||◌, if◌then◌else◌, true, false, None, Some, Ok};
+ghost use Rattle.afr_discipline.specs.Free.{is_ask};
 ghost use Rattle.afr_discipline.specs.Stands.{no_lines};
 ghost use Rattle.afr_discipline.specs.declared.register.Register.{Register};
 ghost use Rattle.afr_lines.specs.Told.{told_by};
@@ -9,16 +9,16 @@ ghost use Rattle.afr_model_moves.specs.Register.{span};
 ghost use Rattle.afr_client_transaction.specs.Between.{given_up, is_read, noted_read};
 ghost use Rattle.afr_client_transaction.specs.Made.{attempted};
 ghost use Rattle.afr_client_transaction.specs.Outcome.{outcome_of};
-ghost use Rattle.afr_client_transaction.specs.Progress.{CarriesAt, TransactionProgress, allowed, answered, asks, begun, fed, is_beginning, is_over, left, next_at, request_at, starting};
-ghost use Rattle.afr_client_transaction.specs.Sound.{IsAsking, IsUnused, Sound, Suits};
+ghost use Rattle.afr_client_transaction.specs.Progress.{CarriesAt, TransactionProgress, allowed, answered, begun, is_beginning, is_over, left, next_at, request_at, starting};
+ghost use Rattle.afr_client_transaction.specs.Sound.{IsUnused, Sound, Suits};
 
 use crate::change::{made_by, numbered};
 use crate::lock::{is_held, met_another, says_held};
 use crate::reply::{TransactionOutcome, outcome_of, reply_for};
-use crate::stage::{LocksAndLooks, Stage, after, asked_after, left_of, put_request, request_of};
+use crate::stage::{LocksAndLooks, Stage, after, asked_after, left_of, put_request};
 use afr_base::{BrickId, BrickSet, NoMemory, Shape};
 use afr_discipline::{Move, Register, fresh, note};
-use afr_lines::{Answer, Next, Request, Told, told_of};
+use afr_lines::{Answer, Next, Reply, Request, Told, told_of};
 use afr_object::{Change, Load};
 use std::alloc::Global;
 use std::marker::Model;
@@ -48,7 +48,7 @@ impl Model for Transaction {
 }
 
 impl Transaction {
-    /// Nothing was asked yet. `has_area` tells which changes suit; `next` puts in the number of a new object.
+    /// Nothing was asked yet. `has_area` tells which changes suit; `begins` puts in the number of a new object.
     pub fn new(shape: Shape, change: Change) -> Transaction
         requires few { shape.n ≤ 5 }
         requires some { 0 < shape.n }
@@ -80,25 +80,6 @@ impl Transaction {
         }
     }
 
-    /// The next line, for this position of the log. Only the change in a Begin line, and the views in an
-    /// End line, take memory.
-    pub fn next(&self, alloc: Global, at: u32) -> Result<Next, NoMemory>
-        ensures value { IfOk result (λ next. next ≡ next_at self.now.stage at self.now) }
-        ensures allowed { IfOk result (λ next. allowed self.now.register next ≡ true) }
-    {
-        match self.stage {
-            Stage::Beginning => {
-                let change = numbered(&self.change, at)?;
-                Ok(Next::Begin(change))
-            }
-            Stage::Closing => {
-                let next = self.closing(alloc, at)?;
-                Ok(next)
-            }
-            stage => Ok(self.asking(stage)),
-        }
-    }
-
     /// Whom the next line asks, where it is a request; that is written where it is to stand, for it is large.
     pub fn asks(&self, request: &mut Request) -> Option<BrickId>
         ensures some { (b : BrickId) → result ≡ Some b → (at : ℕ) → next_at self.now.stage at self.now ≡ Next.Ask b request.new }
@@ -111,6 +92,35 @@ impl Transaction {
         }
         self.put_request(self.stage, request);
         Some(left.lowest())
+    }
+
+    /// The change of the next line, where that is a Begin line at this position. Its copy takes memory.
+    pub fn begins(&self, at: u32) -> Result<Option<Change>, NoMemory>
+        ensures some { (change : Change) → result ≡ Ok (Some change) → next_at self.now.stage at self.now ≡ Next.Begin change }
+        ensures none { result ≡ Ok None → is_ask (next_at self.now.stage at self.now) ≡ false → is_over self.now.stage self.now ≡ true }
+        ensures allowed { (change : Change) → result ≡ Ok (Some change) → allowed self.now.register (Next.Begin change) ≡ true }
+    {
+        match self.stage {
+            Stage::Beginning => {
+                let change = numbered(&self.change, at)?;
+                Ok(Some(change))
+            }
+            _ => Ok(None),
+        }
+    }
+
+    /// The reply, where the next line is the end. Only the views of a split brain take memory.
+    pub fn end(&self, alloc: Global) -> Result<Option<Reply>, NoMemory>
+        ensures some { (reply : Reply) → result ≡ Ok (Some reply) → (at : ℕ) → next_at self.now.stage at self.now ≡ Next.End reply }
+        ensures none { result ≡ Ok None → is_over self.now.stage self.now ≡ false }
+        ensures allowed { (reply : Reply) → result ≡ Ok (Some reply) → allowed self.now.register (Next.End reply) ≡ true }
+    {
+        self.stays_sound();
+        if !self.is_over() {
+            return Ok(None);
+        }
+        let reply = reply_for(alloc, &self.outcome())?;
+        Ok(Some(reply))
     }
 
     /// The change as its Begin line has it, where the operation is asked for next.
@@ -133,15 +143,22 @@ impl Transaction {
         matches!(self.stage, Stage::Beginning)
     }
 
-    /// The next line was written at this position, and this was told; of a Begin line nothing is told.
-    pub fn feed(&mut self, told: &Told, at: u32)
-        requires more { is_over self.old.stage self.old ≡ false }
-        ensures value { self.new ≡ fed self.old.stage told.now at self.old }
+    /// The Begin line was written at this position, where the attempt was to begin.
+    pub fn begun(&mut self, at: u32)
+        ensures { self.new ≡ (if is_beginning self.old.stage then begun at self.old else self.old) }
     {
-        match self.stage {
-            Stage::Beginning => self.begin(at),
-            _ => self.answer(told, at),
+        if !self.is_beginning() {
+            return;
         }
+        note(
+            &mut self.register,
+            &Move::Begin(&self.change),
+            &Told::Done,
+            at,
+        );
+        self.made = made_by(&self.change, at);
+        self.stage = Stage::Preparing;
+        self.waits = false;
     }
 
     /// The request was written at this position, and this was told. An actor that waits for another is told the same again and
@@ -223,24 +240,6 @@ impl Transaction {
         let _ = &self.register;
     }
 
-    fn closing(&self, alloc: Global, at: u32) -> Result<Next, NoMemory>
-        ensures { IfOk result (λ next. next ≡ next_at Stage.Closing at self.now) }
-    {
-        if self.register.held.is_empty() {
-            let reply = reply_for(alloc, &outcome_of(&self.change, &self.register))?;
-            Ok(Next::End(reply))
-        } else {
-            Ok(self.asking(Stage::Closing))
-        }
-    }
-
-    fn asking(&self, stage: Stage) -> Next
-        requires some { is_nothing (left stage self.now) ≡ false }
-        ensures { result ≡ asks stage self.now }
-    {
-        Next::Ask(self.left(stage).lowest(), self.request(stage))
-    }
-
     fn left(&self, stage: Stage) -> BrickSet
         ensures { result ≡ left stage self.now }
     {
@@ -251,35 +250,5 @@ impl Transaction {
         ensures { request.new ≡ request_at stage self.now }
     {
         put_request(stage, &self.change, &self.register, request);
-    }
-
-    fn request(&self, stage: Stage) -> Request
-        ensures { result ≡ request_at stage self.now }
-    {
-        request_of(stage, &self.change, &self.register)
-    }
-
-    fn begin(&mut self, at: u32)
-        requires beginning { self.old.stage ≡ Stage.Beginning }
-        ensures { self.new ≡ begun at self.old }
-    {
-        note(
-            &mut self.register,
-            &Move::Begin(&self.change),
-            &Told::Done,
-            at,
-        );
-        self.made = made_by(&self.change, at);
-        self.stage = Stage::Preparing;
-        self.waits = false;
-    }
-
-    fn answer(&mut self, told: &Told, at: u32)
-        requires asking { IsAsking self.old.stage self.old }
-        ensures { self.new ≡ answered self.old.stage told.now at self.old }
-    {
-        let brick = self.left(self.stage).lowest();
-        let request = self.request(self.stage);
-        self.hear(brick, &request, told, at);
     }
 }

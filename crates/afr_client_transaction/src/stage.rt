@@ -76,16 +76,6 @@ pub(crate) fn put_request(stage: Stage, change: &Change, r: &Register, request: 
     }
 }
 
-/// What is asked.
-pub(crate) fn request_of(stage: Stage, change: &Change, r: &Register) -> Request
-    requires { r.now.shape.n ≤ 5 }
-    ensures { result ≡ request_in stage change.now r.now }
-{
-    let mut request = Request::Index;
-    put_request(stage, change, r, &mut request);
-    request
-}
-
 /// Who was asked, with the brick that has answered now.
 pub(crate) fn asked_after(
     stage: Stage,

@@ -21,6 +21,7 @@ use Rattle.afr_lines.specs.declared.answer.Answer.{Answer}
 use Rattle.afr_lines.specs.declared.answer.Answer.TheVariants as answer
 use Rattle.afr_lines.specs.declared.answer.Told.{Told}
 use Rattle.afr_lines.specs.declared.answer.Told.TheVariants as as_told
+use Rattle.afr_lines.specs.declared.line.Next.TheVariants as next
 use Rattle.afr_lines.specs.declared.request.Request.{Request}
 use Rattle.afr_base.specs.declared.ids.BrickId.{BrickId}
 use Rattle.afr_rule.specs.Choosing.{Calls}
@@ -140,10 +141,18 @@ asks_free w k walks = go w.step k.step walks
 pub asks_allowed : (w : Walk) → IsWalk w → is_walking w.step ≡ true → AllowsAsk w.register (next_in w).0 (next_in w).1
 asks_allowed w k walks = let asks = asks_free w k walks in allows_free w.shape w.register (next_in w).0 (next_in w).1 k.free asks.0 asks.1
 
--- so does it allow what was written of it
-pub asked_allowed : (w : Walk) (brick : BrickId) (request : Request) → brick ≡ (next_in w).0 → request ≡ (next_in w).1 → AllowsAsk w.register (next_in w).0 (next_in w).1 → AllowsAsk w.register brick request
-asked_allowed w brick request eb er h =
-    subst (λ (b : BrickId). AllowsAsk w.register b request) (sym eb) (subst (λ (r : Request). AllowsAsk w.register (next_in w).0 r) (sym er) h)
+-- whoever is asked is one of five bricks
+pub asked_small : (w : Walk) (b : BrickId) (r : Request) → IsWalk w → is_walking w.step ≡ true → next.Ask (next_in w).0 (next_in w).1 ≡ next.Ask b r → b.0 < 5
+asked_small w b r k walks e = subst (λ (x : BrickId). x.0 < 5) (asked_brick (next_in w).0 b (next_in w).1 r e) (omega (arith, low, few))
+  where
+    asked_brick : (a b : BrickId) (q r : Request) → next.Ask a q ≡ next.Ask b r → a ≡ b
+    asked_brick a b q r e = cc e
+
+    low : (next_in w).0.0 < w.shape.n
+    low = (asks_free w k walks).1
+
+    few : w.shape.n ≤ 5
+    few = k.few
 
 -- a brick and its request that are those of a pair are the pair
 pub asked_whole : (brick : BrickId) (request : Request) (asked : BrickId × Request) → asked.0 ≡ brick → asked.1 ≡ request → (brick, request) ≡ asked

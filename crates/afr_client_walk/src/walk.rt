@@ -1,8 +1,9 @@
 //! Walking a path: each name is read from a good copy of the directory that the names before it lead to, which the read rule
 //! picks once all copies were looked at.
-ghost use Rattle.std.specs.Prelude.{◌≡◌, ◌<◌, ◌≤◌, ◌+◌, IfOk, length, false, true};
+ghost use Rattle.std.specs.Prelude.{◌≡◌, ◌<◌, ◌≤◌, ◌+◌, IfOk, None, Some, length, false, true};
 ghost use Rattle.afr_base.specs.Bricks.{is_nothing};
 ghost use Rattle.afr_discipline.specs.Notes.{noted_ask};
+ghost use Rattle.afr_lines.specs.declared.line.Next.{Next};
 ghost use Rattle.afr_rule.specs.Choosing.{IsRule};
 ghost use Rattle.afr_client_walk.specs.Choosing.{RuleAnswers, choices, choices_after, reader_of};
 ghost use Rattle.afr_discipline.specs.Free.{AllowsAsk, IsFree, is_free};
@@ -79,27 +80,16 @@ impl Walk {
         }
     }
 
-    /// What is asked next, while the walk goes on.
-    pub fn next(&self) -> (BrickId, Request)
-        requires walk { IsWalk self.now }
-        requires walking { is_walking self.now.step ≡ true }
-        ensures value { result ≡ next_in self.now }
-        ensures allowed { AllowsAsk self.now.register result.0 result.1 }
-        ensures small { result.0.0 < 5 }
-    {
-        self.asked()
-    }
-
     /// Whom it asks next, while the walk goes on; the request is written where it is to stand.
-    pub fn asks(&self, request: &mut Request) -> BrickId
+    pub fn asks(&self, request: &mut Request) -> Option<BrickId>
         requires walk { IsWalk self.now }
-        requires walking { is_walking self.now.step ≡ true }
-        ensures brick { result ≡ (next_in self.now).0 }
-        ensures request { request.new ≡ (next_in self.now).1 }
-        ensures allowed { AllowsAsk self.now.register result request.new }
-        ensures small { result.0 < 5 }
+        ensures some { (b : BrickId) → result ≡ Some b → Next.Ask (next_in self.now).0 (next_in self.now).1 ≡ Next.Ask b request.new }
+        ensures walking { (b : BrickId) → result ≡ Some b → is_walking self.now.step ≡ true }
+        ensures none { result ≡ None → is_walking self.now.step ≡ false }
+        ensures allowed { (b : BrickId) → result ≡ Some b → AllowsAsk self.now.register b request.new }
+        ensures small { (b : BrickId) → result ≡ Some b → b.0 < 5 }
     {
-        self.write(request)
+        self.ask(request)
     }
 
     /// The brick has answered what it was asked, at this position. Once all were looked at the rule picks the copy that is read
@@ -137,51 +127,27 @@ impl Walk {
         note_free(self.shape, &mut self.register, brick, request, told, at);
     }
 
-    fn asked(&self) -> (BrickId, Request)
+    fn ask(&self, request: &mut Request) -> Option<BrickId>
         requires walk { IsWalk self.now }
-        requires walking { is_walking self.now.step ≡ true }
-        ensures { result ≡ next_in self.now }
-    {
-        match &self.step {
-            WalkStep::Looking(looks) => (
-                looks.next_brick(self.shape.n),
-                Request::Look {
-                    gfid: self.object.gfid,
-                },
-            ),
-            WalkStep::Naming(brick) => (
-                *brick,
-                Request::ReadName {
-                    gfid: self.object.gfid,
-                    name: *self.path.item(self.read),
-                },
-            ),
-            _ => unreachable!(),
-        }
-    }
-
-    /// The same, where the request is written into its place.
-    fn write(&self, request: &mut Request) -> BrickId
-        requires walk { IsWalk self.now }
-        requires walking { is_walking self.now.step ≡ true }
-        ensures brick { result ≡ (next_in self.now).0 }
-        ensures request { request.new ≡ (next_in self.now).1 }
+        ensures some { (b : BrickId) → result ≡ Some b → Next.Ask (next_in self.now).0 (next_in self.now).1 ≡ Next.Ask b request.new }
+        ensures walking { (b : BrickId) → result ≡ Some b → is_walking self.now.step ≡ true }
+        ensures none { result ≡ None → is_walking self.now.step ≡ false }
     {
         match &self.step {
             WalkStep::Looking(looks) => {
                 *request = Request::Look {
                     gfid: self.object.gfid,
                 };
-                looks.next_brick(self.shape.n)
+                Some(looks.next_brick(self.shape.n))
             }
             WalkStep::Naming(brick) => {
                 *request = Request::ReadName {
                     gfid: self.object.gfid,
                     name: *self.path.item(self.read),
                 };
-                *brick
+                Some(*brick)
             }
-            _ => unreachable!(),
+            WalkStep::Arrived | WalkStep::Stopped(_) => None,
         }
     }
 

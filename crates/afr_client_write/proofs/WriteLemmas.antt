@@ -1,5 +1,5 @@
 -- A write has somebody left to ask, the discipline allows what it asks, and its register notes it.
-use Rattle.std.proofs.Common.{◌≡◌, ℕ, ◌&&◌, Bool, true, false, refl, sym, subst, ap, ◌∙◌, arith, inl, inr, None, if◌then◌else◌}
+use Rattle.std.proofs.Common.{◌≡◌, ℕ, ◌&&◌, Bool, true, false, refl, sym, subst, ap, ◌∙◌, arith, inl, inr, if◌then◌else◌}
 use Rattle.std.proofs.lemmas.Bool.Decides.{nat_tests}
 use Rattle.afr_base.specs.Bricks.{lowest, is_nothing}
 use Rattle.afr_base.specs.declared.ids.BrickId.{BrickId}
@@ -22,7 +22,7 @@ use Rattle.afr_discipline.specs.declared.register.Move.{Move}
 use Rattle.afr_discipline.specs.declared.register.Move.TheVariants as move
 use Rattle.afr_discipline.specs.declared.register.Register.{Register}
 use Rattle.afr_discipline.specs.declared.register.Step.TheVariants as step
-use Rattle.afr_discipline.specs.Free.{Allows, IsFree, IsMoveOf, is_ask}
+use Rattle.afr_discipline.specs.Free.{Allows, IsFree, IsMoveOf}
 use Rattle.afr_rule.specs.Choosing.{Calls}
 use Rattle.afr_client_walk.specs.Choosing.{IsAmong, reader_of}
 use Rattle.afr_client_walk.specs.Walk.{next_in, noted, walked, IsWalk}
@@ -40,10 +40,10 @@ use Rattle.afr_client_transaction.specs.Sound.{IsUnused, Suits}
 use Rattle.afr_client_transaction.specs.declared.stage.Stage.{Stage}
 use Rattle.afr_client_transaction.specs.declared.stage.Stage.TheVariants.{Locking, Looking, Beginning, Preparing, Applying, Posting, Closing}
 use Rattle.afr_client_transaction.proofs.Allowed.{allowed_moves}
-use Rattle.afr_client_transaction.proofs.Kept.{kept_begin, sound_first, stays_sound as transaction_stays}
+use Rattle.afr_client_transaction.proofs.Kept.{asks_or_begins, kept_begin, more_left as transaction_more, sound_first, stays_sound as transaction_stays}
 use Rattle.afr_client_write.specs.Job.{IsJob, change_of, is_empty, is_of_bytes}
 use Rattle.afr_client_write.specs.Laws.{AllowedNext, FedIsAnswered, NotesBegin, NotesEach, StaysSound}
-use Rattle.afr_client_write.specs.Write.{IsFed, IsStage, IsWrite, Write, after_step, after_walk, at_object, begun_in, choices_at, choices_heard, is_over, next_at, next_of, register_at, stage_after, stage_begun, walk_after}
+use Rattle.afr_client_write.specs.Write.{IsStage, IsWrite, Write, after_step, after_walk, at_object, begun_in, choices_at, choices_heard, is_over, next_at, register_at, stage_after, stage_begun, walk_after}
 use Rattle.afr_client_write.specs.declared.job.WriteJob.{WriteJob}
 use Rattle.afr_client_write.specs.declared.job.WriteJob.TheVariants as job
 use Rattle.afr_client_write.specs.declared.stage.WriteStage.{WriteStage}
@@ -146,28 +146,11 @@ told_answers Applying told at t brick request e = refl
 told_answers Posting told at t brick request e = refl
 told_answers Closing told at t brick request e = refl
 
--- where it has asked nobody and isn't over, an answer changes nothing
-not_asked : (stage : Stage) (told : Told) (at : ℕ) (t : TransactionProgress) → is_ask (progress.next_at stage at t) ≡ false → progress.is_over stage t ≡ false → (if is_beginning stage then t else fed stage told at t) ≡ t
-not_asked Locking told at t none more = absurd (cc none)
-not_asked Looking told at t none more = absurd (cc none)
-not_asked Beginning told at t none more = refl
-not_asked Preparing told at t none more = absurd (cc none)
-not_asked Applying told at t none more = absurd (cc none)
-not_asked Posting told at t none more = absurd (cc none)
-not_asked Closing told at t none more = go (is_nothing t.register.held) none more
-  where
-    go : (over : Bool) → is_ask (if over then next.End (reply_of t.change t.register) else asks Closing t) ≡ false → over ≡ false → fed Closing told at t ≡ t
-    go true none more = absurd (cc more)
-    go false none more = absurd (cc none)
-
-pub unheard : {F : Type 0} (calls : Calls F) (choose : F) (m : Write) (a : Answer) (at : ℕ) → is_ask (next_of at m) ≡ false → is_over m.stage ≡ false → IsFed calls choose (heard.Answer a at) m m
-unheard calls choose m a at none more = go m.stage none more
-  where
-    go : (stage : WriteStage) → is_ask (next_at at stage m.walk) ≡ false → is_over stage ≡ false
-        → IsFed calls choose (heard.Answer a at) (record { walk = m.walk; stage = stage }) (record { walk = m.walk; stage = stage })
-    go (Walking j) none more = absurd (cc none)
-    go (Changing t) none more = record { picked = None; answers = refl; value = ap (λ (x : TransactionProgress). record { walk = m.walk; stage = Changing x }) (sym (not_asked t.stage (told_by a) at t none more)) }
-    go (Ending said) none more = absurd (cc more)
+-- where the next line is a request or a Begin line, more is left than the end
+pub more_left : (stage : WriteStage) (w : Walk) (at : ℕ) → asks_or_begins (next_at at stage w) ≡ true → is_over stage ≡ false
+more_left (Walking j) w at e = refl
+more_left (Changing t) w at e = transaction_more t.stage t at e
+more_left (Ending said) w at e = absurd (cc e)
 
 pub kept_answer : (chosen : BrickId) (stage : WriteStage) (a : Answer) (at : ℕ) (w : Walk) → IsWrite w stage → is_over stage ≡ false → IsAmong (choices_at stage a w) chosen
     → IsWrite (walk_after chosen stage a at w) (stage_after stage a at (walk_after chosen stage a at w))

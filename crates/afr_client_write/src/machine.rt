@@ -1,18 +1,17 @@
 //! The machine of one write, cut or change of an attribute: what it asks next, and what it makes of the answers.
-ghost use Rattle.std.specs.Prelude.{◌≡◌, ◌<◌, ◌≤◌, IfOk, None, Some, false, true};
-ghost use Rattle.afr_client_write.specs.Write.{CarriesNext, IsFed, IsWrite, answered, choices_at, is_over, next_of, register_of, stage_begun, write_from};
+ghost use Rattle.std.specs.Prelude.{◌≡◌, ℕ, ◌<◌, ◌≤◌, IfOk, None, Ok, Some, false, true};
+ghost use Rattle.afr_client_write.specs.Write.{CarriesNext, IsWrite, answered, choices_at, is_over, next_of, register_of, stage_begun, write_from};
 ghost use Rattle.afr_rule.specs.Choosing.{IsRule};
 ghost use Rattle.afr_client_walk.specs.Choosing.{RuleAnswers, reader_of};
 ghost use Rattle.afr_discipline.specs.Free.{Allows, is_ask};
-ghost use Rattle.afr_client_walk.specs.Walk.{IsWalk, is_walking, next_in};
 
 use crate::job::WriteJob;
 use crate::stage::{WriteStage, first, stage_begun, stage_heard};
 use afr_base::{BrickId, NameId, NoMemory, Shape};
 use afr_client_walk::{Walk, names_of};
 use afr_discipline::Register;
-use afr_lines::{Answer, Heard, KeptReply, Next, Request};
-use afr_object::Load;
+use afr_lines::{Answer, KeptReply, Next, Reply, Request};
+use afr_object::{Change, Load};
 use afr_rule::{Candidate, ReadRule};
 use std::alloc::Global;
 use std::marker::Model;
@@ -51,31 +50,14 @@ impl WriteMachine {
         Ok(WriteMachine { alloc, walk, stage })
     }
 
-    /// Takes the memory of the coming move: `next` takes it, before anything changes.
-    pub fn ready(&mut self) -> Result<(), NoMemory>
-        ensures { self.new ≡ self.old }
-    {
-        let _ = &self.walk;
-        Ok(())
-    }
-
-    /// The next line, for this position of the log. Only what a Begin or End line copies takes memory.
-    pub fn next(&self, position: u32) -> Result<Next, NoMemory>
-        ensures value { IfOk result (λ next. next ≡ next_of position self.now) }
-        ensures allowed { IfOk result (λ next. Allows (register_of self.now) next) }
-    {
-        self.stays_sound();
-        self.line(position)
-    }
-
     /// Whom the next line asks, where it is a request; that is written where it is to stand.
-    pub fn asks(&self, position: u32, request: &mut Request) -> Option<BrickId>
-        ensures some { (b : BrickId) → result ≡ Some b → next_of position self.now ≡ Next.Ask b request.new }
-        ensures none { result ≡ None → is_ask (next_of position self.now) ≡ false }
+    pub fn asks(&self, request: &mut Request) -> Option<BrickId>
+        ensures some { (b : BrickId) → result ≡ Some b → (at : ℕ) → next_of at self.now ≡ Next.Ask b request.new }
+        ensures none { result ≡ None → (at : ℕ) → is_ask (next_of at self.now) ≡ false }
         ensures allowed { (b : BrickId) → result ≡ Some b → Allows (register_of self.now) (Next.Ask b request.new) }
     {
         self.stays_sound();
-        self.ask(position, request)
+        self.ask(request)
     }
 
     /// The change, where the operation is asked for next.
@@ -88,33 +70,57 @@ impl WriteMachine {
         }
     }
 
-    /// The line was written, and the brick has answered. Where all copies of a directory on the way were looked at, the rule
-    /// picks the one that is read. An End line isn't fed.
-    pub fn feed<G: Fn(&[Candidate]) -> usize>(&mut self, heard: Heard, rule: &ReadRule<G>)
+    /// The request was written, and the brick has answered. Where all copies of a directory on the way were looked at, the rule
+    /// picks the one that is read; this is what it has picked now.
+    pub fn hear<G: Fn(&[Candidate]) -> usize>(
+        &mut self,
+        brick: BrickId,
+        request: &Request,
+        answer: &Answer,
+        at: u32,
+        rule: &ReadRule<G>,
+    ) -> Option<BrickId>
         requires rule { IsRule G.Fn rule.now }
-        requires more { is_over self.old.stage ≡ false }
-        ensures { IsFed G.Fn rule.now heard self.old self.new }
+        requires asked { next_of at self.old ≡ Next.Ask brick request.now }
+        ensures picked { RuleAnswers G.Fn rule.now (choices_at self.old.stage answer.now self.old.walk) result }
+        ensures value { self.new ≡ answered (reader_of result) answer.now at self.old }
     {
-        match &heard {
-            Heard::Answer(answer, at) => {
-                let mut request = Request::Index;
-                if let Some(brick) = self.asks(*at, &mut request) {
-                    self.hear(brick, &request, answer, *at, rule);
-                }
-            }
-            Heard::Begun(at) => self.begin(*at),
-        }
+        stage_heard(
+            &mut self.walk,
+            &mut self.stage,
+            brick,
+            request,
+            answer,
+            at,
+            rule,
+        )
     }
 
-    /// Whether the next line is the end.
-    pub fn is_over(&self) -> bool
-        ensures { result ≡ is_over self.now.stage }
+    /// The change of the next line, where that is a Begin line at this position. Its copy takes memory.
+    pub fn begins(&self, at: u32) -> Result<Option<Change>, NoMemory>
+        ensures some { (change : Change) → result ≡ Ok (Some change) → next_of at self.now ≡ Next.Begin change }
+        ensures none { result ≡ Ok None → is_ask (next_of at self.now) ≡ false → is_over self.now.stage ≡ true }
+        ensures allowed { (change : Change) → result ≡ Ok (Some change) → Allows (register_of self.now) (Next.Begin change) }
     {
-        match &self.stage {
-            WriteStage::Walking(_) => false,
-            WriteStage::Changing(transaction) => transaction.is_over(),
-            WriteStage::Ending(_) => true,
-        }
+        self.stays_sound();
+        self.change(at)
+    }
+
+    /// The Begin line was written at this position.
+    pub fn begun(&mut self, at: u32)
+        ensures { self.new ≡ record self.old { stage = stage_begun self.old.stage at } }
+    {
+        stage_begun(&mut self.stage, at);
+    }
+
+    /// The reply, where the next line is the end. Only its copy takes memory.
+    pub fn end(&self) -> Result<Option<Reply>, NoMemory>
+        ensures some { (reply : Reply) → result ≡ Ok (Some reply) → (at : ℕ) → next_of at self.now ≡ Next.End reply }
+        ensures none { result ≡ Ok None → is_over self.now.stage ≡ false }
+        ensures allowed { (reply : Reply) → result ≡ Ok (Some reply) → Allows (register_of self.now) (Next.End reply) }
+    {
+        self.stays_sound();
+        self.reply()
     }
 
     /// What the lines so far show.
@@ -134,74 +140,43 @@ impl WriteMachine {
         let _ = &self.walk;
     }
 
-    fn ask(&self, _position: u32, request: &mut Request) -> Option<BrickId>
-        ensures some { (b : BrickId) → result ≡ Some b → next_of _position self.now ≡ Next.Ask b request.new }
-        ensures none { result ≡ None → is_ask (next_of _position self.now) ≡ false }
+    fn ask(&self, request: &mut Request) -> Option<BrickId>
+        ensures some { (b : BrickId) → result ≡ Some b → (at : ℕ) → next_of at self.now ≡ Next.Ask b request.new }
+        ensures none { result ≡ None → (at : ℕ) → is_ask (next_of at self.now) ≡ false }
     {
         match &self.stage {
-            WriteStage::Walking(_) => Some(self.walk.asks(request)),
+            WriteStage::Walking(_) => self.walk.asks(request),
             WriteStage::Changing(transaction) => transaction.asks(request),
             WriteStage::Ending(_) => None,
         }
     }
 
-    fn line(&self, position: u32) -> Result<Next, NoMemory>
-        ensures { IfOk result (λ next. next ≡ next_of position self.now) }
+    fn change(&self, at: u32) -> Result<Option<Change>, NoMemory>
+        ensures some { (change : Change) → result ≡ Ok (Some change) → next_of at self.now ≡ Next.Begin change }
+        ensures none { result ≡ Ok None → is_ask (next_of at self.now) ≡ false → is_over self.now.stage ≡ true }
     {
         match &self.stage {
-            WriteStage::Walking(_) => Ok(walking(&self.walk)),
-            WriteStage::Changing(transaction) => transaction.next(self.alloc, position),
-            WriteStage::Ending(reply) => ending(self.alloc, reply),
+            WriteStage::Changing(transaction) => transaction.begins(at),
+            _ => Ok(None),
         }
     }
 
-    /// The request was written, and the brick has answered. Where all copies of a directory on the way were looked at, the rule
-    /// picks the one that is read; this is what it has picked now.
-    pub fn hear<G: Fn(&[Candidate]) -> usize>(
-        &mut self,
-        brick: BrickId,
-        request: &Request,
-        answer: &Answer,
-        at: u32,
-        rule: &ReadRule<G>,
-    ) -> Option<BrickId>
-        requires rule { IsRule G.Fn rule.now }
-        requires more { is_over self.old.stage ≡ false }
-        requires asked { next_of at self.old ≡ Next.Ask brick request.now }
-        ensures picked { RuleAnswers G.Fn rule.now (choices_at self.old.stage answer.now self.old.walk) result }
-        ensures value { self.new ≡ answered (reader_of result) answer.now at self.old }
+    fn reply(&self) -> Result<Option<Reply>, NoMemory>
+        ensures some { (reply : Reply) → result ≡ Ok (Some reply) → (at : ℕ) → next_of at self.now ≡ Next.End reply }
+        ensures none { result ≡ Ok None → is_over self.now.stage ≡ false }
     {
-        stage_heard(
-            &mut self.walk,
-            &mut self.stage,
-            brick,
-            request,
-            answer,
-            at,
-            rule,
-        )
-    }
-
-    fn begin(&mut self, at: u32)
-        requires { is_over self.old.stage ≡ false }
-        ensures { self.new ≡ record self.old { stage = stage_begun self.old.stage at } }
-    {
-        stage_begun(&mut self.stage, at);
+        match &self.stage {
+            WriteStage::Walking(_) => Ok(None),
+            WriteStage::Changing(transaction) => transaction.end(self.alloc),
+            WriteStage::Ending(reply) => ending(self.alloc, reply),
+        }
     }
 }
 
-fn walking(walk: &Walk) -> Next
-    requires walk { IsWalk walk.now }
-    requires walking { is_walking walk.now.step ≡ true }
-    ensures { result ≡ Next.Ask (next_in walk.now).0 (next_in walk.now).1 }
-{
-    let (brick, request) = walk.next();
-    Next::Ask(brick, request)
-}
-
-fn ending(alloc: Global, reply: &KeptReply) -> Result<Next, NoMemory>
-    ensures { IfOk result (λ next. next ≡ Next.End reply.now) }
+fn ending(alloc: Global, reply: &KeptReply) -> Result<Option<Reply>, NoMemory>
+    ensures some { (said : Reply) → result ≡ Ok (Some said) → Next.End reply.now ≡ Next.End said }
+    ensures none { result ≡ Ok None → ⊥ }
 {
     let reply = reply.to_reply(alloc)?;
-    Ok(Next::End(reply))
+    Ok(Some(reply))
 }

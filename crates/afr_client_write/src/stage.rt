@@ -1,7 +1,7 @@
 //! The stages of a write, and what an answer makes of each.
 ghost use Rattle.std.specs.Prelude.{◌≡◌, ◌<◌, ◌≤◌, false, not};
 ghost use Rattle.afr_client_write.specs.Job.{IsJob};
-ghost use Rattle.afr_client_write.specs.Write.{IsWrite, after_walk, at_object, begun_in, choices_at, first_stage, is_over, next_at, stage_after, stage_begun, walk_after};
+ghost use Rattle.afr_client_write.specs.Write.{IsWrite, after_walk, at_object, choices_at, first_stage, is_over, next_at, stage_after, stage_begun, walk_after};
 ghost use Rattle.afr_client_transaction.specs.Progress.{told_to};
 ghost use Rattle.afr_lines.specs.Told.{told_by};
 ghost use Rattle.afr_lines.specs.declared.line.Next.{Next};
@@ -17,7 +17,7 @@ use afr_base::{BrickId, What};
 use afr_client_transaction::Transaction;
 use afr_client_walk::{Walk, WalkStep, stop_reply};
 use afr_discipline::Register;
-use afr_lines::{Answer, Good, KeptReply, Reply, Request, Told};
+use afr_lines::{Answer, Good, KeptReply, Reply, Request};
 use afr_object::Entry;
 use afr_rule::{Candidate, ReadRule};
 use std::mem;
@@ -155,15 +155,7 @@ pub(crate) fn stage_begun(stage: &mut WriteStage, at: u32)
     ensures { stage.new ≡ stage_begun stage.old at }
 {
     match stage {
-        WriteStage::Changing(transaction) => begun(transaction, at),
+        WriteStage::Changing(transaction) => transaction.begun(at),
         _ => {}
-    }
-}
-
-fn begun(transaction: &mut Transaction, at: u32)
-    ensures { transaction.new ≡ begun_in at transaction.old }
-{
-    if transaction.is_beginning() {
-        transaction.feed(&Told::Done, at);
     }
 }

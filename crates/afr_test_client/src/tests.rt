@@ -32,13 +32,9 @@ fn hears<G: Fn(&[Candidate]) -> usize>(walk: &mut Walk, answer: &Answer, rule: &
     requires walk { IsWalk walk.old }
     ensures { IsWalk walk.new }
 {
-    match walk.step {
-        WalkStep::Looking(_) => {
-            let mut request = Request::Index;
-            let brick = walk.asks(&mut request);
-            walk.hear(brick, &request, answer, 3, rule);
-        }
-        _ => {}
+    let mut request = Request::Index;
+    if let Some(brick) = walk.asks(&mut request) {
+        walk.hear(brick, &request, answer, 3, rule);
     }
 }
 

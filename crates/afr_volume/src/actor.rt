@@ -7,11 +7,11 @@ ghost use Rattle.afr_server.specs.Serving.{HasEpoch};
 ghost use Rattle.afr_servers.specs.Calls.{At};
 ghost use Rattle.afr_servers.specs.Visiting.{MeetsNext, visiting};
 ghost use Rattle.afr_discipline.specs.Free.{is_ask};
-ghost use Rattle.afr_client.specs.Work.{IsBusy, is_over, next_of};
+ghost use Rattle.afr_client.specs.Work.{IsBusy, next_of};
 ghost use Rattle.afr_volume.specs.Acting.{CanStep, HasHeard, HearsBy, IsAsked, IsBegun, IsEnded, Stepped, Written, picked_after, still_picked};
 
 use afr_base::{ActorId, BrickId, NoMemory};
-use afr_client::{WorkMachine, a_work_stays_sound};
+use afr_client::WorkMachine;
 use afr_law_fits::{fits_its_types, request_fits_its_types};
 use afr_lines::{Answer, Line, Next, Reply, Request};
 use afr_log::Log;
@@ -52,7 +52,7 @@ pub(crate) fn step<G: Fn(&[Candidate]) -> usize>(
     ensures ok { OnOk result (Adds (λ line. Stepped (HearsBy G.Fn rule.now) a position actor.old actor.new servers.old servers.new line) log.old.items log.new.items) }
     ensures err { OnErr result ((actor.new ≡ actor.old) × (servers.new ≡ servers.old) × (log.new.items ≡ log.old.items)) }
 {
-    match actor.work.asks(position, &mut exchange.request) {
+    match actor.work.asks(&mut exchange.request) {
         Some(brick) => asks(
             actor,
             a,
@@ -68,7 +68,7 @@ pub(crate) fn step<G: Fn(&[Candidate]) -> usize>(
     }
 }
 
-/// A line that is no request: an attempt begins, or the work ends. It stands apart, so that only such lines pay for its frame.
+/// A line that is no request: the work ends, or an attempt begins. It stands apart, so that only such lines pay for its frame.
 #[inline(never)]
 fn writes(
     actor: &mut Actor,
@@ -77,7 +77,6 @@ fn writes(
     position: u32,
     log: &mut Log,
 ) -> Result<(), NoMemory>
-    requires busy { IsBusy actor.old.work }
     requires other { is_ask (next_of position actor.old.work) ≡ false }
     requires room { actor.old.ended < 2 ^ 32 - 1 }
     requires known { a.0 < 20 }
@@ -86,10 +85,13 @@ fn writes(
     ensures ok { OnOk result (Adds (λ line. Written a position actor.old actor.new servers.old servers.new line) log.old.items log.new.items) }
     ensures err { OnErr result ((actor.new ≡ actor.old) × (servers.new ≡ servers.old) × (log.new.items ≡ log.old.items)) }
 {
-    match actor.work.next(position)? {
-        Next::Begin(change) => Ok(begins(actor, a, change, servers, position, log)),
-        Next::End(reply) => Ok(ends(actor, a, reply, servers, log)),
-        _ => unreachable!(),
+    if let Some(reply) = actor.work.end()? {
+        return Ok(ends(actor, a, reply, servers, log));
+    }
+    // What asks nobody and isn't over begins an attempt.
+    match actor.work.begins(position)? {
+        Some(change) => Ok(begins(actor, a, change, servers, position, log)),
+        None => Ok(()),
     }
 }
 
@@ -121,7 +123,6 @@ fn hear<G: Fn(&[Candidate]) -> usize>(
     rule: &ReadRule<G>,
 )
     requires rule { IsRule G.Fn rule.now }
-    requires more { is_over actor.old.work ≡ false }
     requires asked { next_of position actor.old.work ≡ Next.Ask brick request.now }
     ensures { HasHeard (HearsBy G.Fn rule.now) answer.old position met request.now actor.old actor.new }
 {
@@ -142,7 +143,6 @@ fn tells<G: Fn(&[Candidate]) -> usize>(
     rule: &ReadRule<G>,
 )
     requires rule { IsRule G.Fn rule.now }
-    requires more { is_over actor.old.work ≡ false }
     requires asked { next_of position actor.old.work ≡ Next.Ask brick request.now }
     requires space { log.old.room ≡ true }
     ensures added { log.new.items ≡ log.old.items ++ told_line a brick request.now given.old ∷ [] }
@@ -180,7 +180,6 @@ fn asks<G: Fn(&[Candidate]) -> usize>(
     ensures err { OnErr result ((actor.new ≡ actor.old) × (servers.new ≡ servers.old) × (log.new.items ≡ log.old.items)) }
 {
     request_fits_its_types(request);
-    a_work_stays_sound();
     let met = actor.visit.met;
     let visit = &mut actor.visit;
     let work = &actor.work;
@@ -212,7 +211,6 @@ fn begins(
     position: u32,
     log: &mut Log,
 )
-    requires next { next_of position actor.old.work ≡ Next.Begin change }
     requires known { a.0 < 20 }
     requires room { (b : ℕ) → At b servers.old (HasEpoch a) }
     requires space { log.old.room ≡ true }

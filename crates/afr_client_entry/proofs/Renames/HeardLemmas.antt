@@ -1,5 +1,5 @@
 -- What a rename hears is an answer to what its next line has asked.
-use Rattle.std.proofs.Common.{◌≡◌, ℕ, ◌<◌, Bool, true, false, List, [], Option, None, refl, ap, subst, sym, ◌∙◌, if◌then◌else◌}
+use Rattle.std.proofs.Common.{◌≡◌, ℕ, ◌<◌, Bool, true, false, List, [], Option, refl, ap, subst, sym, ◌∙◌, if◌then◌else◌}
 use Rattle.afr_base.specs.declared.ids.BrickId.{BrickId}
 use Rattle.afr_base.specs.declared.ids.Kind.TheVariants.{Names}
 use Rattle.afr_object.specs.declared.change.Change.{Change}
@@ -8,19 +8,16 @@ use Rattle.afr_lines.specs.Areas.{kind_for}
 use Rattle.afr_lines.specs.Told.{told_by}
 use Rattle.afr_lines.specs.declared.answer.Answer.{Answer}
 use Rattle.afr_lines.specs.declared.answer.Told.{Told}
-use Rattle.afr_lines.specs.declared.line.Heard.TheVariants as heard
 use Rattle.afr_lines.specs.declared.line.Next.TheVariants as next
 use Rattle.afr_lines.specs.declared.request.Request.{Request}
 use Rattle.afr_rule.specs.Choosing.{Calls}
 use Rattle.afr_rule.specs.declared.candidate.Candidate.{Candidate}
 use Rattle.afr_client_walk.specs.Choosing.{RuleAnswers, reader_of}
-use Rattle.afr_discipline.specs.Free.{is_ask}
 use Rattle.afr_client_walk.specs.Walk as walks
 use Rattle.afr_client_walk.specs.Walk.{is_walking, walked}
 use Rattle.afr_client_walk.specs.declared.walk.Walk.{Walk}
 use Rattle.afr_client_walk.proofs.ChoosingLemmas.{answers_among}
 use Rattle.afr_client_transaction.specs.Between.{is_read, noted_read}
-use Rattle.afr_client_transaction.specs.Outcome.{outcome_of}
 use Rattle.afr_client_transaction.specs.Progress as progress
 use Rattle.afr_client_transaction.specs.Progress.{TransactionProgress, fed, is_beginning, told_to}
 use Rattle.afr_client_transaction.specs.declared.stage.Stage.{Stage}
@@ -31,15 +28,15 @@ use Rattle.afr_client_entry.specs.Job.{reply_to}
 use Rattle.afr_client_entry.specs.declared.refusal.Refusal.{Refusal}
 use Rattle.afr_client_entry.specs.declared.stage.Found.{Found}
 use Rattle.afr_client_entry.specs.declared.stage.Found.TheVariants.{Unread, Fits, Refused}
-use Rattle.afr_client_entry.proofs.HeardLemmas.{beginning_where, is_unread}
-use Rattle.afr_client_entry.specs.Renames.Against.{against_new, against_old, half_reply}
+use Rattle.afr_client_entry.proofs.HeardLemmas.{is_unread}
+use Rattle.afr_client_entry.specs.Renames.Against.{against_new, against_old}
 use Rattle.afr_client_entry.specs.Renames.Paths.{IsPaths, found_in, reads_new, reads_old}
-use Rattle.afr_client_entry.specs.Renames.Rename.{IsFed, IsRename, Renaming, after_first, after_second, choices_at, is_done, is_over, making_after, making_next, next_at, next_of, paths_after, second_begun, stage_after, turned, turned_anew}
+use Rattle.afr_client_entry.specs.Renames.Rename.{IsRename, after_first, after_second, choices_at, is_done, is_over, making_after, making_next, next_at, paths_after, second_begun, stage_after, turned, turned_anew}
 use Rattle.afr_client_entry.specs.Renames.Under.{IsUnder, choices_under, found_after, next_under, progress_after}
 use Rattle.afr_client_entry.specs.declared.renaming.paths.Paths.{Paths}
-use Rattle.afr_client_entry.proofs.Renames.RenameLemmas.{first_paths, is_after_first, is_after_second, is_turned, kept_answer, over_not_done, second_paths}
+use Rattle.afr_client_entry.proofs.Renames.RenameLemmas.{first_paths, is_after_first, is_after_second, is_turned, kept_answer, second_paths}
 use Rattle.afr_client_entry.specs.declared.renaming.stage.RenameStage.{RenameStage}
-use Rattle.afr_client_entry.specs.declared.renaming.stage.RenameStage.TheVariants.{Finding, Walking, Making, Removing, Ending}
+use Rattle.afr_client_entry.specs.declared.renaming.stage.RenameStage.TheVariants.{Walking, Making, Removing}
 
 -- ---- while the name isn't asked for
 pub unread_asks : (asked : Request) (t : TransactionProgress) (reader b : BrickId) (q : Request) (at : ℕ) → is_beginning t.stage ≡ false → next_under (Unread reader) at asked t ≡ next.Ask b q → progress.next_at t.stage at t ≡ next.Ask b q
@@ -154,72 +151,6 @@ pub found_offers : (found : Found) (t : TransactionProgress) (at : ℕ) (told : 
 found_offers (Unread reader) t at told u = absurd (cc u)
 found_offers Fits t at told u = refl
 found_offers (Refused why) t at told u = refl
-
--- ---- where nobody is asked
--- there an answer changes nothing
-untold : (told : Told) (at : ℕ) (t : TransactionProgress) → is_beginning t.stage ≡ true → t ≡ told_to told at t
-untold told at t f = go (is_beginning t.stage) f
-  where
-    go : (s : Bool) → s ≡ true → t ≡ (if s then t else fed t.stage told at t)
-    go true f = refl
-    go false f = absurd (cc f)
-
--- under the locks of a name: nothing to choose from, and all stays
-pub unheard_under : (why : Option Refusal) (asked : Request) (chosen : BrickId) (found : Found) (told : Told) (at : ℕ) (t : TransactionProgress) → is_ask (next_under found at asked t) ≡ false → progress.is_over t.stage t ≡ false
-    → (choices_under found told at t ≡ []) × (t ≡ progress_after found why asked told at t) × (found ≡ found_after chosen found why t.stage)
-unheard_under why asked chosen (Unread reader) told at t none more = absurd (go (is_beginning t.stage) refl none)
-  where
-    go : (s : Bool) → is_beginning t.stage ≡ s → is_ask (if s then next.Ask reader asked else progress.next_at t.stage at t) ≡ false → ⊥
-    go true f none = cc none
-    go false f none = let g = beginning_where t.stage t at none more in cc (f, g)
-unheard_under why asked chosen Fits told at t none more = (refl, untold told at t (beginning_where t.stage t at none more), refl)
-unheard_under why asked chosen (Refused r) told at t none more = (refl, untold told at t (go (progress.is_over t.stage t) more none), refl)
-  where
-    go : (s : Bool) → s ≡ false → is_ask (if s then next.End (reply_to r) else progress.next_at t.stage at t) ≡ false → is_beginning t.stage ≡ true
-    go true f none = absurd (cc f)
-    go false f none = beginning_where t.stage t at none more
-
--- a rename at this stage
-abbrev at_stage : Paths → RenameStage → Renaming
-at_stage x stage = record { paths = x; stage = stage }
-
--- the same of a whole rename
-pub unheard : {F : Type 0} (calls : Calls F) (choose : F) (m : Renaming) (a : Answer) (at : ℕ) → is_ask (next_of at m) ≡ false → is_over m.stage ≡ false → IsFed calls choose (heard.Answer a at) m m
-unheard calls choose m a at none more = go m.stage none more
-  where
-    making : (t : TransactionProgress) (found : Found) → (d : Bool) → is_done t ≡ d → is_over (Making t found) ≡ false
-        → is_ask (if d then progress.next_at Locking at (turned m.paths t) else next_under found at (reads_new m.paths) t) ≡ false
-        → IsFed calls choose (heard.Answer a at) (at_stage m.paths (Making t found)) (at_stage m.paths (Making t found))
-    making t found true e more none = absurd (cc none)
-    making t found false e more none =
-        let u = unheard_under (against_new a) (reads_new m.paths) (reader_of None) found (told_by a) at t none (over_not_done (progress.is_over t.stage t) (is_done t) more e) in
-        record {
-          picked = None;
-          answers = subst (λ (d : Bool). (if d then [] else choices_under found (told_by a) at t) ≡ []) (sym e) u.0;
-          value =
-              subst (λ (d : Bool). at_stage m.paths (Making t found) ≡ at_stage m.paths (if d then second_begun (told_by a) at m.paths t else making_after (reader_of None) found a at m.paths t)) (sym e)
-              (ap (λ (x : TransactionProgress). at_stage m.paths (Making x found)) u.1
-              ∙ ap (λ (f : Found). at_stage m.paths (Making (progress_after found (against_new a) (reads_new m.paths) (told_by a) at t) f)) u.2);
-        }
-
-    go : (stage : RenameStage) → is_ask (next_at at stage m.paths) ≡ false → is_over stage ≡ false → IsFed calls choose (heard.Answer a at) (at_stage m.paths stage) (at_stage m.paths stage)
-    go Finding none more = absurd (cc none)
-    go Walking none more = absurd (cc none)
-    go (Making t found) none more = making t found (is_done t) refl more none
-    go (Removing t found) none more =
-        let u = unheard_under (against_old m.paths.first.object.gfid a) (reads_old m.paths) (reader_of None) found (told_by a) at t (asked (progress.is_over t.stage t) more none) more in
-        record {
-          picked = None;
-          answers = u.0;
-          value =
-              ap (λ (x : TransactionProgress). at_stage m.paths (Removing x found)) u.1
-              ∙ ap (λ (f : Found). at_stage m.paths (Removing (progress_after found (against_old m.paths.first.object.gfid a) (reads_old m.paths) (told_by a) at t) f)) u.2;
-        }
-      where
-        asked : (d : Bool) → d ≡ false → is_ask (if d then next.End (half_reply (outcome_of t.change t.register)) else next_under found at (reads_old m.paths) t) ≡ false → is_ask (next_under found at (reads_old m.paths) t) ≡ false
-        asked true e none = absurd (cc e)
-        asked false e none = none
-    go (Ending said) none more = absurd (cc more)
 
 -- ---- what the code makes of an answer
 -- the first walk's

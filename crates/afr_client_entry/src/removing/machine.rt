@@ -1,8 +1,9 @@
 //! One removal: what it asks next, and what an answer leaves of it.
-ghost use Rattle.std.specs.Prelude.{[], None, Some, ◌≡◌, ◌<◌, ◌≤◌, ◌+◌, ◌^◌, true, false, IfOk};
+ghost use Rattle.std.specs.Prelude.{[], None, Ok, Some, ◌≡◌, ◌<◌, ◌≤◌, ◌+◌, ◌^◌, true, false};
 ghost use Rattle.afr_base.specs.Bricks.{is_nothing};
 ghost use Rattle.afr_model_moves.specs.Register.{span};
-ghost use Rattle.afr_client_entry.specs.Removals.Removal.{CarriesAt, answered, asks, begun, brick_at, choices_at, is_beginning, is_over, left, next_at, removing, request_at, stage_after};
+ghost use Rattle.afr_client_entry.specs.Entry.{removal_begun};
+ghost use Rattle.afr_client_entry.specs.Removals.Removal.{CarriesAt, answered, brick_at, choices_at, is_beginning, is_over, left, next_at, removing, request_at, stage_after};
 ghost use Rattle.afr_client_entry.specs.Removals.Sound.{IsAsking, IsBase, IsRemoval, IsUnbegun, Sound};
 ghost use Rattle.afr_lines.specs.Areas.{area_for};
 ghost use Rattle.afr_rule.specs.Choosing.{IsRule};
@@ -15,7 +16,7 @@ use crate::removing::stage::{
 };
 use afr_base::{BrickId, BrickSet, Gfid, NoMemory};
 use afr_discipline::{Move, Register, note};
-use afr_lines::{Answer, Next, Request, Told, told_of};
+use afr_lines::{Answer, Next, Reply, Request, Told, told_of};
 use afr_object::{Change, Load, TryCopy};
 use afr_rule::{Candidate, ReadRule};
 use std::alloc::Global;
@@ -43,7 +44,7 @@ impl Model for Removal {
 
 impl Removal {
     /// The register holds the name's locks and has the looks at its directory; no attempt was begun.
-    pub fn new(register: Register, change: Change, child: Gfid) -> Removal
+    pub(crate) fn new(register: Register, change: Change, child: Gfid) -> Removal
         requires removes { IsRemoval change }
         requires base { IsBase change register }
         requires named { register.area ≡ Some (area_for change) }
@@ -62,28 +63,8 @@ impl Removal {
         }
     }
 
-    /// The next line. Only the change in a Begin line, and the views in an End line, take memory.
-    pub fn next(&self, alloc: Global) -> Result<Next, NoMemory>
-        ensures { IfOk result (λ next. next ≡ next_at self.now.stage self.now) }
-    {
-        match self.stage {
-            RemovalStage::Beginning => {
-                let change = self.change.copy()?;
-                Ok(Next::Begin(change))
-            }
-            RemovalStage::Closing(why) => {
-                if self.left().is_empty() {
-                    let reply = reply_of(alloc, &why, &self.register)?;
-                    return Ok(Next::End(reply));
-                }
-                Ok(self.asking())
-            }
-            _ => Ok(self.asking()),
-        }
-    }
-
     /// Whom the next line asks, where it is a request; that is written where it is to stand, for it is large.
-    pub fn asks(&self, request: &mut Request) -> Option<BrickId>
+    pub(crate) fn asks(&self, request: &mut Request) -> Option<BrickId>
         ensures some { (b : BrickId) → result ≡ Some b → next_at self.now.stage self.now ≡ Next.Ask b request.new }
         ensures none { result ≡ None → is_ask (next_at self.now.stage self.now) ≡ false }
         ensures allowed { (b : BrickId) → result ≡ Some b → Allows self.now.register (Next.Ask b request.new) }
@@ -93,7 +74,7 @@ impl Removal {
     }
 
     /// The change, where the operation is asked for next.
-    pub fn load(&self) -> Load<'_>
+    pub(crate) fn load(&self) -> Load<'_>
         ensures { CarriesAt self.now.stage result self.now.change }
     {
         match self.stage {
@@ -102,54 +83,9 @@ impl Removal {
         }
     }
 
-    /// Whether the next line is a Begin line.
-    pub fn is_beginning(&self) -> bool
-        ensures { result ≡ is_beginning self.now.stage }
-    {
-        matches!(self.stage, RemovalStage::Beginning)
-    }
-
-    /// Whether no lock is left to release: the next line is the end of the work.
-    pub fn is_over(&self) -> bool
-        ensures { result ≡ is_over self.now.stage self.now }
-    {
-        match self.stage {
-            RemovalStage::Closing(_) => self.left().is_empty(),
-            _ => false,
-        }
-    }
-
-    /// What the lines so far show.
-    pub fn register(&self) -> &Register
-        ensures { result.now ≡ self.now.register }
-    {
-        &self.register
-    }
-
-    /// What the removal keeps at every moment, for those who prove over its value.
-    pub fn stays_sound(&self)
-        ensures { Sound self.now }
-    {
-        let _ = &self.register;
-    }
-
-    /// The attempt has its number, which is this position.
-    pub fn begin(&mut self, at: u32)
-        requires { is_beginning self.old.stage ≡ true }
-        ensures { self.new ≡ begun at self.old }
-    {
-        note(
-            &mut self.register,
-            &Move::Begin(&self.change),
-            &Told::Done,
-            at,
-        );
-        self.stage = RemovalStage::Preparing;
-    }
-
     /// This request was answered at this position. Where the child is to be listed the rule picks the copy; this is what it has
     /// picked now.
-    pub fn answer<G: Fn(&[Candidate]) -> usize>(
+    pub(crate) fn hear<G: Fn(&[Candidate]) -> usize>(
         &mut self,
         brick: BrickId,
         request: &Request,
@@ -170,6 +106,82 @@ impl Removal {
         self.child = child_after(stage, brick, &told, &self.register, &self.child);
         self.stage = stage_by(stage, answer, &self.change, &self.register, &self.child);
         picked_at(stage, self.stage, &self.register, &mut self.child, rule)
+    }
+
+    /// The change of the next line, where that is a Begin line. Its copy takes memory.
+    pub(crate) fn begins(&self) -> Result<Option<Change>, NoMemory>
+        ensures some { (change : Change) → result ≡ Ok (Some change) → next_at self.now.stage self.now ≡ Next.Begin change }
+        ensures none { result ≡ Ok None → is_ask (next_at self.now.stage self.now) ≡ false → is_over self.now.stage self.now ≡ true }
+    {
+        match self.stage {
+            RemovalStage::Beginning => {
+                let change = self.change.copy()?;
+                Ok(Some(change))
+            }
+            _ => Ok(None),
+        }
+    }
+
+    /// The Begin line was written at this position, where the attempt was to begin.
+    pub(crate) fn begun(&mut self, at: u32)
+        ensures { self.new ≡ removal_begun at self.old }
+    {
+        if !self.is_beginning() {
+            return;
+        }
+        note(
+            &mut self.register,
+            &Move::Begin(&self.change),
+            &Told::Done,
+            at,
+        );
+        self.stage = RemovalStage::Preparing;
+    }
+
+    /// The reply, where the next line is the end: no lock is left to release. Only the views of a split brain take memory.
+    pub(crate) fn end(&self, alloc: Global) -> Result<Option<Reply>, NoMemory>
+        ensures some { (reply : Reply) → result ≡ Ok (Some reply) → next_at self.now.stage self.now ≡ Next.End reply }
+        ensures none { result ≡ Ok None → is_over self.now.stage self.now ≡ false }
+    {
+        match self.stage {
+            RemovalStage::Closing(why) => {
+                if !self.left().is_empty() {
+                    return Ok(None);
+                }
+                let reply = reply_of(alloc, &why, &self.register)?;
+                Ok(Some(reply))
+            }
+            _ => Ok(None),
+        }
+    }
+
+    /// What the lines so far show.
+    pub(crate) fn register(&self) -> &Register
+        ensures { result.now ≡ self.now.register }
+    {
+        &self.register
+    }
+
+    /// What the removal keeps at every moment, for those who prove over its value.
+    pub(crate) fn stays_sound(&self)
+        ensures { Sound self.now }
+    {
+        let _ = &self.register;
+    }
+
+    fn is_beginning(&self) -> bool
+        ensures { result ≡ is_beginning self.now.stage }
+    {
+        matches!(self.stage, RemovalStage::Beginning)
+    }
+
+    fn is_over(&self) -> bool
+        ensures { result ≡ is_over self.now.stage self.now }
+    {
+        match self.stage {
+            RemovalStage::Closing(_) => self.left().is_empty(),
+            _ => false,
+        }
     }
 
     fn left(&self) -> BrickSet
@@ -205,13 +217,6 @@ impl Removal {
         self.stays_sound();
         *request = self.request();
         Some(self.brick())
-    }
-
-    fn asking(&self) -> Next
-        requires { IsAsking self.now.stage self.now }
-        ensures { result ≡ asks self.now.stage self.now }
-    {
-        Next::Ask(self.brick(), self.request())
     }
 }
 

@@ -1,22 +1,23 @@
 //! The machine of one rename: what it asks next, and what it makes of the answers.
-ghost use Rattle.std.specs.Prelude.{None, Some, ◌≡◌, ℕ, ◌<◌, ◌≤◌, IfOk, false, length, true};
-ghost use Rattle.afr_client_entry.specs.Renames.Rename.{CarriesNext, IsFed, IsRename, answered, choices_at, is_over, making_next, next_of, register_of, removing_next, rename_from, stage_begun};
+ghost use Rattle.std.specs.Prelude.{None, Ok, Some, ◌≡◌, ℕ, ◌<◌, ◌≤◌, ◌&&◌, IfOk, false, length, not, true};
+ghost use Rattle.afr_client_entry.specs.Renames.Rename.{CarriesNext, IsRename, answered, choices_at, is_done, is_over, making_next, next_of, register_of, removing_next, rename_from, stage_begun};
 ghost use Rattle.afr_rule.specs.Choosing.{IsRule};
 ghost use Rattle.afr_client_walk.specs.Choosing.{RuleAnswers, reader_of};
 ghost use Rattle.afr_discipline.specs.Free.{Allows, is_ask};
-ghost use Rattle.afr_client_walk.specs.Walk.{IsWalk, is_walking, next_in};
+ghost use Rattle.afr_client_transaction.specs.Progress as progress;
 
 use crate::Found;
+use crate::machine::ending;
 use crate::renaming::paths::{Paths, paths_from, reads_new, reads_old};
 use crate::renaming::refusal::half_reply;
 use crate::renaming::stage::{RenameStage, is_done, stage_begun, stage_heard, turn};
-use crate::renaming::under::{asks_under, next_under};
+use crate::renaming::under::asks_under;
+use crate::under::{begins_under, end_under};
 use afr_base::{BrickId, NameId, NoMemory, Shape};
 use afr_client_transaction::Transaction;
-use afr_client_walk::Walk;
 use afr_discipline::Register;
-use afr_lines::{Answer, Heard, KeptReply, Next, Request};
-use afr_object::Load;
+use afr_lines::{Answer, Next, Reply, Request};
+use afr_object::{Change, Load};
 use afr_rule::{Candidate, ReadRule};
 use std::alloc::Global;
 use std::marker::Model;
@@ -61,28 +62,10 @@ impl RenameMachine {
         })
     }
 
-    /// Takes the memory of the coming move: `next` takes it, before anything changes.
-    pub fn ready(&mut self) -> Result<(), NoMemory>
-        ensures { self.new ≡ self.old }
-    {
-        let _ = &self.paths;
-        Ok(())
-    }
-
-    /// The next line, for this position of the log. Only the views in an End line take memory.
-    pub fn next(&self, position: u32) -> Result<Next, NoMemory>
-        ensures value { IfOk result (λ next. next ≡ next_of position self.now) }
-        ensures allowed { IfOk result (λ next. Allows (register_of self.now) next) }
-    {
-        let line = self.line(position)?;
-        self.stays_sound();
-        Ok(line)
-    }
-
     /// Whom the next line asks, where it is a request; that is written where it is to stand, for it is large.
-    pub fn asks(&self, _position: u32, request: &mut Request) -> Option<BrickId>
-        ensures some { (b : BrickId) → result ≡ Some b → next_of _position self.now ≡ Next.Ask b request.new }
-        ensures none { result ≡ None → is_ask (next_of _position self.now) ≡ false }
+    pub fn asks(&self, request: &mut Request) -> Option<BrickId>
+        ensures some { (b : BrickId) → result ≡ Some b → (at : ℕ) → next_of at self.now ≡ Next.Ask b request.new }
+        ensures none { result ≡ None → (at : ℕ) → is_ask (next_of at self.now) ≡ false }
         ensures allowed { (b : BrickId) → result ≡ Some b → Allows (register_of self.now) (Next.Ask b request.new) }
     {
         self.stays_sound();
@@ -100,34 +83,57 @@ impl RenameMachine {
         }
     }
 
-    /// The line was written, and the brick has answered. Once all copies of a directory were looked at the rule picks the one
-    /// that is read. An End line isn't fed.
-    pub fn feed<G: Fn(&[Candidate]) -> usize>(&mut self, heard: Heard, rule: &ReadRule<G>)
+    /// This request was written, and the brick has answered. Once all copies of a directory were looked at the rule picks the
+    /// one that is read; this is what it has picked now.
+    pub fn hear<G: Fn(&[Candidate]) -> usize>(
+        &mut self,
+        brick: BrickId,
+        request: &Request,
+        answer: &Answer,
+        at: u32,
+        rule: &ReadRule<G>,
+    ) -> Option<BrickId>
         requires rule { IsRule G.Fn rule.now }
-        requires more { is_over self.old.stage ≡ false }
-        ensures { IsFed G.Fn rule.now heard self.old self.new }
+        requires asked { next_of at self.old ≡ Next.Ask brick request.now }
+        ensures picked { RuleAnswers G.Fn rule.now (choices_at self.old.stage answer.now at self.old.paths) result }
+        ensures value { self.new ≡ answered (reader_of result) answer.now at self.old }
     {
-        match &heard {
-            Heard::Answer(answer, at) => {
-                let mut request = Request::Index;
-                if let Some(brick) = self.asks(*at, &mut request) {
-                    self.hear(brick, &request, answer, *at, rule);
-                }
-            }
-            Heard::Begun(at) => self.begin(*at),
-        }
+        stage_heard(
+            &mut self.paths,
+            &mut self.stage,
+            brick,
+            request,
+            answer,
+            at,
+            rule,
+        )
     }
 
-    /// Whether the next line is the end.
-    pub fn is_over(&self) -> bool
-        ensures { result ≡ is_over self.now.stage }
+    /// The change of the next line, where that is a Begin line at this position. Its copy takes memory.
+    pub fn begins(&self, at: u32) -> Result<Option<Change>, NoMemory>
+        ensures some { (change : Change) → result ≡ Ok (Some change) → next_of at self.now ≡ Next.Begin change }
+        ensures none { result ≡ Ok None → is_ask (next_of at self.now) ≡ false → is_over self.now.stage ≡ true }
+        ensures allowed { (change : Change) → result ≡ Ok (Some change) → Allows (register_of self.now) (Next.Begin change) }
     {
-        match &self.stage {
-            RenameStage::Finding | RenameStage::Walking => false,
-            RenameStage::Making(transaction, _) => transaction.is_over() && !is_done(transaction),
-            RenameStage::Removing(transaction, _) => transaction.is_over(),
-            RenameStage::Ending(_) => true,
-        }
+        self.stays_sound();
+        self.change(at)
+    }
+
+    /// The Begin line was written at this position.
+    pub fn begun(&mut self, at: u32)
+        ensures { self.new ≡ record self.old { stage = stage_begun self.old.stage at } }
+    {
+        stage_begun(&mut self.stage, at);
+    }
+
+    /// The reply, where the next line is the end. Only the views of a split brain take memory.
+    pub fn end(&self) -> Result<Option<Reply>, NoMemory>
+        ensures some { (reply : Reply) → result ≡ Ok (Some reply) → (at : ℕ) → next_of at self.now ≡ Next.End reply }
+        ensures none { result ≡ Ok None → is_over self.now.stage ≡ false }
+        ensures allowed { (reply : Reply) → result ≡ Ok (Some reply) → Allows (register_of self.now) (Next.End reply) }
+    {
+        self.stays_sound();
+        self.reply()
     }
 
     /// What the lines so far show.
@@ -149,56 +155,13 @@ impl RenameMachine {
         let _ = &self.paths;
     }
 
-    /// This request was written, and the brick has answered. Once all copies of a directory were looked at the rule picks the
-    /// one that is read; this is what it has picked now.
-    pub fn hear<G: Fn(&[Candidate]) -> usize>(
-        &mut self,
-        brick: BrickId,
-        request: &Request,
-        answer: &Answer,
-        at: u32,
-        rule: &ReadRule<G>,
-    ) -> Option<BrickId>
-        requires rule { IsRule G.Fn rule.now }
-        requires more { is_over self.old.stage ≡ false }
-        requires asked { next_of at self.old ≡ Next.Ask brick request.now }
-        ensures picked { RuleAnswers G.Fn rule.now (choices_at self.old.stage answer.now at self.old.paths) result }
-        ensures value { self.new ≡ answered (reader_of result) answer.now at self.old }
-    {
-        stage_heard(
-            &mut self.paths,
-            &mut self.stage,
-            brick,
-            request,
-            answer,
-            at,
-            rule,
-        )
-    }
-
-    fn line(&self, position: u32) -> Result<Next, NoMemory>
-        ensures { IfOk result (λ next. next ≡ next_of position self.now) }
-    {
-        match &self.stage {
-            RenameStage::Finding => Ok(walking(&self.paths.first)),
-            RenameStage::Walking => Ok(walking(&self.paths.second)),
-            RenameStage::Making(transaction, found) => {
-                making(self.alloc, &self.paths, transaction, *found, position)
-            }
-            RenameStage::Removing(transaction, found) => {
-                removing(self.alloc, &self.paths, transaction, *found, position)
-            }
-            RenameStage::Ending(reply) => ending(self.alloc, reply),
-        }
-    }
-
     fn ask(&self, request: &mut Request) -> Option<BrickId>
         ensures some { (b : BrickId) → result ≡ Some b → (at : ℕ) → next_of at self.now ≡ Next.Ask b request.new }
         ensures none { result ≡ None → (at : ℕ) → is_ask (next_of at self.now) ≡ false }
     {
         match &self.stage {
-            RenameStage::Finding => Some(self.paths.first.asks(request)),
-            RenameStage::Walking => Some(self.paths.second.asks(request)),
+            RenameStage::Finding => self.paths.first.asks(request),
+            RenameStage::Walking => self.paths.second.asks(request),
             RenameStage::Making(transaction, found) => {
                 making_asks(&self.paths, transaction, *found, request)
             }
@@ -209,41 +172,31 @@ impl RenameMachine {
         }
     }
 
-    fn begin(&mut self, at: u32)
-        requires { is_over self.old.stage ≡ false }
-        ensures { self.new ≡ record self.old { stage = stage_begun self.old.stage at } }
+    fn change(&self, at: u32) -> Result<Option<Change>, NoMemory>
+        ensures some { (change : Change) → result ≡ Ok (Some change) → next_of at self.now ≡ Next.Begin change }
+        ensures none { result ≡ Ok None → is_ask (next_of at self.now) ≡ false → is_over self.now.stage ≡ true }
     {
-        stage_begun(&mut self.stage, at);
+        match &self.stage {
+            RenameStage::Making(transaction, found) => making_begins(transaction, *found, at),
+            RenameStage::Removing(transaction, found) => begins_under(transaction, *found, at),
+            _ => Ok(None),
+        }
+    }
+
+    fn reply(&self) -> Result<Option<Reply>, NoMemory>
+        ensures some { (reply : Reply) → result ≡ Ok (Some reply) → (at : ℕ) → next_of at self.now ≡ Next.End reply }
+        ensures none { result ≡ Ok None → is_over self.now.stage ≡ false }
+    {
+        match &self.stage {
+            RenameStage::Finding | RenameStage::Walking => Ok(None),
+            RenameStage::Making(transaction, found) => making_end(self.alloc, transaction, *found),
+            RenameStage::Removing(transaction, _) => Ok(removing_end(transaction)),
+            RenameStage::Ending(reply) => ending(self.alloc, reply),
+        }
     }
 }
 
-fn walking(walk: &Walk) -> Next
-    requires walk { IsWalk walk.now }
-    requires walking { is_walking walk.now.step ≡ true }
-    ensures { result ≡ Next.Ask (next_in walk.now).0 (next_in walk.now).1 }
-{
-    let (brick, request) = walk.next();
-    Next::Ask(brick, request)
-}
-
-/// The next line of the first transaction, or the lock with which the second one begins.
-fn making(
-    alloc: Global,
-    paths: &Paths,
-    transaction: &Transaction,
-    found: Found,
-    position: u32,
-) -> Result<Next, NoMemory>
-    requires { IsRename paths.now (RenameStage.Making transaction.now found) }
-    ensures { IfOk result (λ next. next ≡ making_next found position paths.now transaction.now) }
-{
-    if is_done(transaction) {
-        return turn(paths, transaction).next(alloc, position);
-    }
-    next_under(alloc, transaction, found, reads_new(paths), position)
-}
-
-/// Whom it asks.
+/// Whom the first transaction asks, or the second one with the lock that it begins with.
 fn making_asks(
     paths: &Paths,
     transaction: &Transaction,
@@ -260,24 +213,7 @@ fn making_asks(
     asks_under(transaction, found, reads_new(paths), request)
 }
 
-/// The next line of the second transaction. Where it isn't acknowledged the rename stays half.
-fn removing(
-    alloc: Global,
-    paths: &Paths,
-    transaction: &Transaction,
-    found: Found,
-    position: u32,
-) -> Result<Next, NoMemory>
-    requires { IsRename paths.now (RenameStage.Removing transaction.now found) }
-    ensures { IfOk result (λ next. next ≡ removing_next found position paths.now transaction.now) }
-{
-    if transaction.is_over() {
-        return Ok(Next::End(half_reply(&transaction.outcome())));
-    }
-    next_under(alloc, transaction, found, reads_old(paths), position)
-}
-
-/// Whom it asks.
+/// Whom the second transaction asks.
 fn removing_asks(
     paths: &Paths,
     transaction: &Transaction,
@@ -294,9 +230,44 @@ fn removing_asks(
     asks_under(transaction, found, reads_old(paths), request)
 }
 
-fn ending(alloc: Global, reply: &KeptReply) -> Result<Next, NoMemory>
-    ensures { IfOk result (λ next. next ≡ Next.End reply.now) }
+/// The change that the first transaction begins.
+fn making_begins(
+    transaction: &Transaction,
+    found: Found,
+    at: u32,
+) -> Result<Option<Change>, NoMemory>
+    ensures some { (change : Change) → result ≡ Ok (Some change) → (paths : Paths) → making_next found at paths transaction.now ≡ Next.Begin change }
+    ensures none { result ≡ Ok None → (paths : Paths) → is_ask (making_next found at paths transaction.now) ≡ false → (progress.is_over transaction.now.stage transaction.now && not (is_done transaction.now)) ≡ true }
 {
-    let reply = reply.to_reply(alloc)?;
-    Ok(Next::End(reply))
+    if is_done(transaction) {
+        return Ok(None);
+    }
+    begins_under(transaction, found, at)
+}
+
+/// What the rename ends with, where its first transaction wasn't acknowledged.
+fn making_end(
+    alloc: Global,
+    transaction: &Transaction,
+    found: Found,
+) -> Result<Option<Reply>, NoMemory>
+    ensures some { (reply : Reply) → result ≡ Ok (Some reply) → (at : ℕ) (paths : Paths) → making_next found at paths transaction.now ≡ Next.End reply }
+    ensures none { result ≡ Ok None → (progress.is_over transaction.now.stage transaction.now && not (is_done transaction.now)) ≡ false }
+{
+    if is_done(transaction) {
+        return Ok(None);
+    }
+    end_under(alloc, transaction, found)
+}
+
+/// What it ends with after its second transaction. Where that isn't acknowledged the rename stays half.
+fn removing_end(transaction: &Transaction) -> Option<Reply>
+    ensures some { (reply : Reply) → result ≡ Some reply → (found : Found) (at : ℕ) (paths : Paths) → removing_next found at paths transaction.now ≡ Next.End reply }
+    ensures none { result ≡ None → progress.is_over transaction.now.stage transaction.now ≡ false }
+{
+    if transaction.is_over() {
+        Some(half_reply(&transaction.outcome()))
+    } else {
+        None
+    }
 }

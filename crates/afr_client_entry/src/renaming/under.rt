@@ -1,7 +1,7 @@
 //! One of a rename's transactions: under the locks of a name this is read before the change is begun.
-ghost use Rattle.std.specs.Prelude.{◌≡◌, ℕ, false, true, IfOk, Some, None};
+ghost use Rattle.std.specs.Prelude.{◌≡◌, ℕ, false, true, Some, None};
 ghost use Rattle.afr_lines.specs.Areas.{kind_for};
-ghost use Rattle.afr_client_entry.specs.Entry.{found_by, offered, progress_begun, settled};
+ghost use Rattle.afr_client_entry.specs.Entry.{found_by, offered, settled};
 ghost use Rattle.afr_client_entry.specs.Renames.Under.{IsUnder, choices_under, found_after, next_under, progress_after};
 ghost use Rattle.afr_rule.specs.Choosing.{IsRule};
 ghost use Rattle.afr_client_transaction.specs.Between.{is_read};
@@ -10,40 +10,12 @@ ghost use Rattle.afr_client_transaction.specs.Progress.{is_beginning};
 ghost use Rattle.afr_client_walk.specs.Choosing.{RuleAnswers, reader_of};
 ghost use Rattle.afr_discipline.specs.Free.{is_ask};
 
-use crate::{Found, Refusal, reply_to};
-use afr_base::{BrickId, Kind, NoMemory};
+use crate::{Found, Refusal};
+use afr_base::{BrickId, Kind};
 use afr_client_transaction::Transaction;
 use afr_client_walk::{pick, reader_of};
 use afr_lines::{Next, Request, Told};
 use afr_rule::{Candidate, ReadRule};
-use std::alloc::Global;
-
-/// The next line under the locks; this is the request for the name.
-pub(crate) fn next_under(
-    alloc: Global,
-    transaction: &Transaction,
-    found: Found,
-    asked: Request,
-    position: u32,
-) -> Result<Next, NoMemory>
-    ensures { IfOk result (λ next. next ≡ next_under found position asked transaction.now) }
-{
-    match found {
-        Found::Unread(brick) => {
-            if transaction.is_beginning() {
-                return Ok(Next::Ask(brick, asked));
-            }
-            transaction.next(alloc, position)
-        }
-        Found::Fits => transaction.next(alloc, position),
-        Found::Refused(why) => {
-            if transaction.is_over() {
-                return Ok(Next::End(reply_to(why)));
-            }
-            transaction.next(alloc, position)
-        }
-    }
-}
 
 /// Whom the next line under the locks asks, where it is a request.
 pub(crate) fn asks_under(
@@ -178,19 +150,5 @@ fn settle(transaction: &mut Transaction, why: Option<Refusal>) -> Found
             Found::Refused(why)
         }
         None => Found::Fits,
-    }
-}
-
-/// The transaction hears of a Begin line at this position.
-pub(crate) fn begun_under(transaction: &mut Transaction, found: Found, at: u32)
-    ensures { transaction.new ≡ progress_begun found at transaction.old }
-{
-    match found {
-        Found::Unread(_) => {}
-        Found::Fits | Found::Refused(_) => {
-            if transaction.is_beginning() {
-                transaction.feed(&Told::Done, at);
-            }
-        }
     }
 }

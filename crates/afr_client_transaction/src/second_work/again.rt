@@ -6,7 +6,7 @@ ghost use Rattle.afr_client_transaction.specs.Sound.{Suits};
 ghost use Rattle.afr_client_transaction.specs.declared.stage.Stage.{Stage};
 
 use crate::Transaction;
-use afr_lines::Told;
+use afr_lines::{Request, Told};
 use afr_object::Change;
 
 /// The first lock of a second transaction was told this, after one that is over: a new transaction hears it, since the lock
@@ -21,6 +21,10 @@ pub fn begins_again(first: &Transaction, change: Change, told: &Told, at: u32) -
     first.stays_sound();
     let shape = first.register().shape;
     let mut second = Transaction::new(shape, change);
-    second.feed(told, at);
+    let mut request = Request::Index;
+    let Some(brick) = second.asks(&mut request) else {
+        return second;
+    };
+    second.hear(brick, &request, told, at);
     second
 }

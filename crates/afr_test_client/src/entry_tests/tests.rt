@@ -1,7 +1,7 @@
 //! Commands on a name of the root, to their ends.
 use afr_base::{AllMarks, Gfid, NameId, Shape, What};
 use afr_client_entry::{EntryJob, EntryMachine};
-use afr_lines::{Answer, Good, Heard, Next, Reply};
+use afr_lines::{Answer, Good, Reply, Request};
 use afr_object::{Change, Entry, List, Load, NameList, View};
 use afr_rule::ReadRule;
 use afr_rule::shipped::first;
@@ -19,14 +19,23 @@ fn on_three(alloc: Global, path: &[NameId], job: EntryJob) -> Option<EntryMachin
     EntryMachine::new(alloc, shape, path, job).ok()
 }
 
-fn hears(machine: &mut EntryMachine, heard: Heard) {
-    if !machine.is_over() {
-        machine.feed(heard, &ReadRule::new(first));
+fn hears_one(machine: &mut EntryMachine, answer: Answer) {
+    let mut request = Request::Index;
+    if let Some(brick) = machine.asks(&mut request) {
+        machine.hear(brick, &request, &answer, 3, &ReadRule::new(first));
     }
 }
 
-fn hears_one(machine: &mut EntryMachine, answer: Answer) {
-    hears(machine, Heard::Answer(answer, 3));
+/// The change of the Begin line at this position, which is written.
+fn begins(machine: &mut EntryMachine, at: u32) -> Option<Change> {
+    let change = machine.begins(at).ok()??;
+    machine.begun(at);
+    Some(change)
+}
+
+/// What it ends with, where its next line is the end.
+fn ends_with(machine: &EntryMachine) -> Option<Reply> {
+    machine.end().ok()?
 }
 
 fn all_done(machine: &mut EntryMachine) {
@@ -64,18 +73,16 @@ fn locked(alloc: Global, job: EntryJob) -> Option<EntryMachine> {
 }
 
 /// A file is made on every brick: the number that its Begin line gives, whether its operation carries it, and its end.
-fn makes_a_file(alloc: Global) -> Option<(Next, bool, Next)> {
+fn makes_a_file(alloc: Global) -> Option<(Change, bool, Reply)> {
     let mut machine = locked(alloc, EntryJob::Create { name: NAME })?;
     hears_one(&mut machine, Answer::Entry(None));
-    machine.ready().ok()?;
-    let begin = machine.next(7).ok()?;
-    hears(&mut machine, Heard::Begun(7));
+    let begin = begins(&mut machine, 7)?;
     all_done(&mut machine);
     let carried = matches!(machine.load(), Load::Change(Change::Make { .. }));
     all_done(&mut machine);
     all_done(&mut machine);
     all_done(&mut machine);
-    let end = machine.next(20).ok()?;
+    let end = ends_with(&machine)?;
     Some((begin, carried, end))
 }
 
@@ -85,14 +92,14 @@ fn a_file_takes_its_number_from_its_begin_line(rt: HostRuntime) {
         matches!(
             makes_a_file(rt.alloc()),
             Some((
-                Next::Begin(Change::Make {
+                Change::Make {
                     dir: ROOT,
                     name: NAME,
                     gfid: Gfid(9),
                     what: What::File
-                }),
+                },
                 true,
-                Next::End(Reply::Ok(Good::Done))
+                Reply::Ok(Good::Done)
             ))
         )
     );
@@ -109,24 +116,24 @@ fn child_locked(alloc: Global, locks: [Answer; 3]) -> Option<EntryMachine> {
 }
 
 /// The end of a removal whose child has these names.
-fn removes_with(alloc: Global, names: NameList) -> Option<Next> {
+fn removes_with(alloc: Global, names: NameList) -> Option<Reply> {
     let locks = [Answer::Granted, Answer::Granted, Answer::Granted];
     let mut machine = child_locked(alloc, locks)?;
     hears_one(&mut machine, seen());
     hears_one(&mut machine, seen());
     hears_one(&mut machine, seen());
     hears_one(&mut machine, Answer::Names(names));
-    hears(&mut machine, Heard::Begun(14));
+    begins(&mut machine, 14)?;
     all_done(&mut machine);
     all_done(&mut machine);
     all_done(&mut machine);
     all_done(&mut machine);
     all_done(&mut machine);
-    machine.next(30).ok()
+    ends_with(&machine)
 }
 
 #[test]
 fn an_empty_directory_is_removed(rt: HostRuntime) {
     let end = removes_with(rt.alloc(), List::new(rt.alloc()));
-    assert!(rt; matches!(end, Some(Next::End(Reply::Ok(Good::Done)))));
+    assert!(rt; matches!(end, Some(Reply::Ok(Good::Done))));
 }

@@ -4,7 +4,7 @@ ghost use Rattle.afr_rule.specs.Choosing.{IsRule};
 
 use afr_base::{AllMarks, BrickId, Gfid, NameId, Shape, What};
 use afr_client_read::{LookupJob, LookupMachine};
-use afr_lines::{Answer, Heard, Next, Reply, Request};
+use afr_lines::{Answer, Reply, Request};
 use afr_object::{Entry, Load, View};
 use afr_rule::shipped::first;
 use afr_rule::{Candidate, ReadRule};
@@ -30,13 +30,14 @@ fn last(from: &[Candidate]) -> usize
 
 fn hears<G: Fn(&[Candidate]) -> usize>(
     machine: &mut LookupMachine,
-    answer: Answer,
+    mut answer: Answer,
     rule: &ReadRule<G>,
 )
     requires { IsRule G.Fn rule.now }
 {
-    if !machine.is_over() {
-        machine.feed(Heard::Answer(answer, 3), rule);
+    let mut request = Request::Index;
+    if let Some(brick) = machine.asks(&mut request) {
+        machine.hear(brick, &request, &mut answer, 3, rule);
     }
 }
 
@@ -84,17 +85,14 @@ fn reader_by<G: Fn(&[Candidate]) -> usize>(alloc: Global, rule: &ReadRule<G>) ->
     requires { IsRule G.Fn rule.now }
 {
     let machine = in_the_root(alloc, LookupJob::Read { at: 1, len: 4 }, rule)?;
-    match machine.next(9) {
-        Ok(
-            Next::Ask(
-                brick,
-                Request::ReadBytes {
-                    gfid: FILE,
-                    at: 1,
-                    len: 4,
-                },
-            ),
-        ) => Some(brick),
+    let mut request = Request::Index;
+    let brick = machine.asks(&mut request)?;
+    match request {
+        Request::ReadBytes {
+            gfid: FILE,
+            at: 1,
+            len: 4,
+        } => Some(brick),
         _ => None,
     }
 }
@@ -107,22 +105,21 @@ fn a_file_in_the_root_is_read_at_the_good_copy_that_the_rule_picks(rt: HostRunti
     assert!(rt; matches!(highest, Some(BrickId(2))));
 }
 
-/// A refused read of the file's value: the last of these lines.
-fn refused(alloc: Global) -> Option<Next> {
+/// What a refused read of the file's value ends with.
+fn refused(alloc: Global) -> Option<Reply> {
     let rule = ReadRule::new(first);
     let job = LookupJob::GetAttr {
         key: afr_base::KeyId(2),
     };
     let mut machine = in_the_root(alloc, job, &rule)?;
-    machine.ready().ok()?;
     if !matches!(machine.load(), Load::Nothing) {
         return None;
     }
     hears(&mut machine, Answer::Failed, &rule);
-    machine.next(10).ok()
+    machine.end().ok()?
 }
 
 #[test]
 fn a_refused_read_has_failed(rt: HostRuntime) {
-    assert!(rt; matches!(refused(rt.alloc()), Some(Next::End(Reply::Failed))));
+    assert!(rt; matches!(refused(rt.alloc()), Some(Reply::Failed)));
 }

@@ -1,7 +1,7 @@
 //! A rename of a file in the root: whom it asks, what the rule picks, its register and its laws.
 use afr_base::{AllMarks, BrickId, NameId, Shape, What};
 use afr_client_entry::{RenameMachine, a_rename_keeps_the_discipline, a_rename_reads_good_copies};
-use afr_lines::{Answer, Heard, Request};
+use afr_lines::{Answer, Request};
 use afr_object::View;
 use afr_rule::ReadRule;
 use afr_rule::shipped::first;
@@ -19,14 +19,11 @@ fn on_three(alloc: Global) -> Option<RenameMachine> {
     RenameMachine::new(alloc, shape, &[OLD], &[NEW]).ok()
 }
 
-fn hears(machine: &mut RenameMachine, heard: Heard) {
-    if !machine.is_over() {
-        machine.feed(heard, &ReadRule::new(first));
-    }
-}
-
 fn hears_one(machine: &mut RenameMachine, answer: Answer) {
-    hears(machine, Heard::Answer(answer, 3));
+    let mut request = Request::Index;
+    if let Some(brick) = machine.asks(&mut request) {
+        machine.hear(brick, &request, &answer, 3, &ReadRule::new(first));
+    }
 }
 
 /// A clean copy of the root.
@@ -44,10 +41,7 @@ fn picks(alloc: Global) -> Option<BrickId> {
     hears_one(&mut machine, seen());
     hears_one(&mut machine, seen());
     let mut request = Request::Index;
-    let brick = machine.asks(2, &mut request)?;
-    if machine.is_over() {
-        return None;
-    }
+    let brick = machine.asks(&mut request)?;
     machine.hear(brick, &request, &seen(), 2, &ReadRule::new(first))
 }
 

@@ -1,11 +1,10 @@
 //! What a change locks, and the number of what it makes.
-use crate::transaction_tests::lines::{FILE, begins, tells_three};
+use crate::transaction_tests::lines::{FILE, asks, begins, tells_three};
 use afr_base::{AllMarks, BrickId, NameId, Shape, What};
 use afr_client_transaction::{Transaction, has_area};
 use afr_discipline::fresh;
-use afr_lines::{Next, Request, Told};
+use afr_lines::{Request, Told};
 use afr_object::{Change, Chunk, Load, View};
-use std::alloc::Global;
 
 #[test]
 fn a_write_of_no_bytes_has_no_area(rt: HostRuntime) {
@@ -53,8 +52,8 @@ fn reads_and_gives_up(transaction: &mut Transaction) {
     }
 }
 
-/// What follows where the change of a name is given up.
-fn after_giving_up(alloc: Global) -> Option<Next> {
+/// What the lowest brick is asked where the change of a name is given up.
+fn after_giving_up() -> Option<Request> {
     let shape = Shape {
         n: 3,
         arbiter: false,
@@ -73,15 +72,10 @@ fn after_giving_up(alloc: Global) -> Option<Next> {
     tells_three(&mut transaction, [Told::Granted; 3]);
     tells_three(&mut transaction, [dir; 3]);
     reads_and_gives_up(&mut transaction);
-    transaction.next(alloc, 7).ok()
+    asks(&transaction, 0)
 }
 
 #[test]
 fn a_change_that_is_given_up_is_unlocked(rt: HostRuntime) {
-    assert!(rt;
-        matches!(
-            after_giving_up(rt.alloc()),
-            Some(Next::Ask(BrickId(0), Request::Unlock { .. }))
-        )
-    );
+    assert!(rt; matches!(after_giving_up(), Some(Request::Unlock { .. })));
 }

@@ -1,9 +1,8 @@
 //! The answers of the tests, and what a transaction of a cut makes of them.
 use afr_base::{AllMarks, Gfid, Shape, What};
 use afr_client_transaction::{Transaction, TransactionOutcome};
-use afr_lines::{Next, Request, Told};
+use afr_lines::{Request, Told};
 use afr_object::{Change, View};
-use std::alloc::Global;
 
 pub(crate) const FILE: Gfid = Gfid(2);
 
@@ -25,14 +24,15 @@ pub(crate) fn clean() -> Told {
     })
 }
 
-/// The next line was told this.
+/// The next request was told this.
 pub(crate) fn tells(transaction: &mut Transaction, told: Told) {
-    if !transaction.is_over() {
-        transaction.feed(&told, 10);
+    let mut request = Request::Index;
+    if let Some(brick) = transaction.asks(&mut request) {
+        transaction.hear(brick, &request, &told, 10);
     }
 }
 
-/// The next three lines were told these.
+/// The next three requests were told these.
 pub(crate) fn tells_three(transaction: &mut Transaction, told: [Told; 3]) {
     tells(transaction, told[0]);
     tells(transaction, told[1]);
@@ -43,22 +43,16 @@ pub(crate) fn tells_three(transaction: &mut Transaction, told: [Told; 3]) {
 pub(crate) fn begins(transaction: &mut Transaction) {
     tells_three(transaction, [Told::Granted; 3]);
     tells_three(transaction, [clean(); 3]);
-    tells(transaction, Told::Done);
-}
-
-fn request_to(next: &Next, b: u8) -> Option<Request> {
-    match next {
-        Next::Ask(brick, request) => { if brick.0 == b { Some(*request) } else { None } }
-        _ => None,
+    if let Ok(Some(_)) = transaction.begins(10) {
+        transaction.begun(10);
     }
 }
 
-/// The request of the next line, if it goes to this brick.
-pub(crate) fn asks(alloc: Global, transaction: &Transaction, b: u8) -> Option<Request> {
-    match transaction.next(alloc, 10) {
-        Ok(next) => request_to(&next, b),
-        Err(_) => None,
-    }
+/// What is asked next, if it is asked of this brick.
+pub(crate) fn asks(transaction: &Transaction, b: u8) -> Option<Request> {
+    let mut request = Request::Index;
+    let brick = transaction.asks(&mut request)?;
+    if brick.0 == b { Some(request) } else { None }
 }
 
 pub(crate) fn is_acknowledged(transaction: &Transaction) -> bool {

@@ -7,12 +7,7 @@ fn a_cut_that_all_bricks_carry_out_is_acknowledged(rt: HostRuntime) {
     let mut transaction = cuts();
     begins(&mut transaction);
     tells_three(&mut transaction, [Told::Done; 3]);
-    assert!(rt;
-        matches!(
-            asks(rt.alloc(), &transaction, 0),
-            Some(Request::Apply { attempt: 10 })
-        )
-    );
+    assert!(rt; matches!(asks(&transaction, 0), Some(Request::Apply { attempt: 10 })));
     tells_three(&mut transaction, [Told::Done; 3]);
     tells_three(&mut transaction, [Told::Done; 3]);
     tells_three(&mut transaction, [Told::Done; 3]);

@@ -1,10 +1,10 @@
 //! Works of a client at the root, from their commands to their ends.
-ghost use Rattle.std.specs.Prelude.{◌≡◌, Some, false};
-ghost use Rattle.afr_client.specs.Work.{is_over, next_of};
+ghost use Rattle.std.specs.Prelude.{◌≡◌, true};
+ghost use Rattle.afr_client.specs.Begin.{has_machine};
 
 use afr_base::{AllMarks, BrickId, Gfid, KeyId, NameId, Shape, ValueId, What};
-use afr_client::{WorkMachine, has_machine, work_for};
-use afr_lines::{Answer, Good, Next, Reply, Request};
+use afr_client::{WorkMachine, work_for};
+use afr_lines::{Answer, Good, Reply, Request};
 use afr_object::{Change, Entry, List, Load, View};
 use afr_plan::Command;
 use afr_rule::ReadRule;
@@ -23,42 +23,31 @@ fn seen() -> Answer {
     })
 }
 
-fn on_three(alloc: Global, command: &Command) -> Option<WorkMachine> {
+fn on_three(alloc: Global, command: &Command) -> Option<WorkMachine>
+    requires { has_machine command.now ≡ true }
+{
     let shape = Shape {
         n: 3,
         arbiter: false,
     };
-    if has_machine(command) {
-        work_for(alloc, shape, command).ok()
-    } else {
-        None
-    }
+    work_for(alloc, shape, command).ok()
 }
 
-fn line_of(work: &WorkMachine) -> Option<Next> {
-    match work {
-        WorkMachine::Idle => None,
-        _ => work.next(9).ok(),
-    }
+/// Whom a work asks next, and for what.
+fn asked(work: &WorkMachine) -> Option<(BrickId, Request)> {
+    let mut request = Request::Index;
+    let brick = work.asks(&mut request)?;
+    Some((brick, request))
 }
 
-/// Whom a work asks at line 3, where it has more left than the end.
-fn asks_of(work: &WorkMachine, request: &mut Request) -> Option<BrickId>
-    ensures more { (b : BrickId) → result ≡ Some b → is_over work.now ≡ false }
-    ensures asked { (b : BrickId) → result ≡ Some b → next_of 3 work.now ≡ Next.Ask b request.new }
-{
-    if work.is_over() {
-        return None;
-    }
-    match work {
-        WorkMachine::Idle => None,
-        _ => work.asks(3, request),
-    }
+/// What it ends with, where its next line is the end.
+fn ends_with(work: &WorkMachine) -> Option<Reply> {
+    work.end().ok()?
 }
 
 fn hears_one(work: &mut WorkMachine, mut answer: Answer) {
     let mut request = Request::Index;
-    if let Some(brick) = asks_of(work, &mut request) {
+    if let Some(brick) = work.asks(&mut request) {
         work.hear(brick, &request, &mut answer, 3, &ReadRule::new(first));
     }
 }
@@ -82,7 +71,7 @@ fn all_granted(work: &mut WorkMachine) {
 }
 
 fn begins(work: &mut WorkMachine) {
-    if !work.is_over() {
+    if let Ok(Some(_)) = work.begins(10) {
         work.begun(10);
     }
 }
@@ -98,16 +87,17 @@ fn carries_the_attribute(work: &WorkMachine) -> bool {
 fn a_client_is_idle_at_first(rt: HostRuntime) {
     let work = WorkMachine::Idle;
     assert!(rt; work.is_idle());
-    assert!(rt; work.is_over());
+    assert!(rt; matches!(asked(&work), None));
+    assert!(rt; matches!(work.end(), Ok(Some(_))));
 }
 
 /// What a stat of the root asks first, and what it answers.
-fn stat_of_the_root(alloc: Global) -> Option<(Next, Next)> {
+fn stat_of_the_root(alloc: Global) -> Option<((BrickId, Request), Reply)> {
     let path = List::new(alloc);
     let mut work = on_three(alloc, &Command::Stat { path })?;
-    let first = line_of(&work)?;
+    let first = asked(&work)?;
     all_seen(&mut work);
-    let last = line_of(&work)?;
+    let last = ends_with(&work)?;
     Some((first, last))
 }
 
@@ -117,8 +107,8 @@ fn a_stat_looks_and_ends(rt: HostRuntime) {
         matches!(
             stat_of_the_root(rt.alloc()),
             Some((
-                Next::Ask(BrickId(0), Request::Look { gfid: ROOT }),
-                Next::End(Reply::Ok(Good::Stat { len: 5, .. }))
+                (BrickId(0), Request::Look { gfid: ROOT }),
+                Reply::Ok(Good::Stat { len: 5, .. })
             ))
         )
     );
@@ -134,34 +124,29 @@ fn attribute_of_the_root(alloc: Global) -> Option<WorkMachine> {
     on_three(alloc, &command)
 }
 
-/// What is answered once the operation, post-op and the unlocks were done everywhere.
-fn finished(work: &mut WorkMachine) -> Option<Next> {
+/// The operation, post-op and the unlocks are done everywhere.
+fn finishes(work: &mut WorkMachine) {
     all_done(work);
     all_done(work);
     all_done(work);
-    line_of(work)
 }
 
 /// Whether its operation carried it, and what it answers.
-fn carried_out(alloc: Global) -> Option<(bool, Next)> {
+fn carried_out(alloc: Global) -> Option<(bool, Reply)> {
     let mut work = attribute_of_the_root(alloc)?;
     all_granted(&mut work);
     all_seen(&mut work);
     begins(&mut work);
     all_done(&mut work);
     let carried = carries_the_attribute(&work);
-    let next = finished(&mut work)?;
-    Some((carried, next))
+    finishes(&mut work);
+    let reply = ends_with(&work)?;
+    Some((carried, reply))
 }
 
 #[test]
 fn an_attribute_is_carried_to_every_brick(rt: HostRuntime) {
-    assert!(rt;
-        matches!(
-            carried_out(rt.alloc()),
-            Some((true, Next::End(Reply::Ok(Good::Done))))
-        )
-    );
+    assert!(rt; matches!(carried_out(rt.alloc()), Some((true, Reply::Ok(Good::Done)))));
 }
 
 fn the_file() -> Answer {
@@ -213,17 +198,18 @@ fn removes_the_old_name(work: &WorkMachine) -> bool {
 }
 
 /// Whether its first operation made the new name, whether its second one removed the old one, and what it answers.
-fn renamed(alloc: Global) -> Option<(bool, bool, Next)> {
+fn renamed(alloc: Global) -> Option<(bool, bool, Reply)> {
     let mut work = rename_in_the_root(alloc)?;
     all_seen(&mut work);
     hears_one(&mut work, the_file());
     attempted(&mut work, Answer::Entry(None));
     let made = makes_the_new_name(&work);
-    finished(&mut work)?;
+    finishes(&mut work);
     attempted(&mut work, the_file());
     let removed = removes_the_old_name(&work);
-    let next = finished(&mut work)?;
-    Some((made, removed, next))
+    finishes(&mut work);
+    let reply = ends_with(&work)?;
+    Some((made, removed, reply))
 }
 
 #[test]
@@ -231,24 +217,7 @@ fn a_file_gets_another_name(rt: HostRuntime) {
     assert!(rt;
         matches!(
             renamed(rt.alloc()),
-            Some((true, true, Next::End(Reply::Ok(Good::Done))))
+            Some((true, true, Reply::Ok(Good::Done)))
         )
     );
-}
-
-fn bricks_of(work: &WorkMachine) -> u8 {
-    work.stays_sound();
-    match work {
-        WorkMachine::Idle => 0,
-        _ => work.register().shape.n,
-    }
-}
-
-#[test]
-fn the_register_is_of_the_volume(rt: HostRuntime) {
-    let bricks = match attribute_of_the_root(rt.alloc()) {
-        Some(work) => bricks_of(&work),
-        None => 0,
-    };
-    assert!(rt; bricks == 3);
 }

@@ -1,7 +1,7 @@
 //! A write of a file in the root, to its end.
 use afr_base::{AllMarks, Gfid, NameId, Shape, What};
 use afr_client_write::{WriteJob, WriteMachine};
-use afr_lines::{Answer, Good, Heard, Next, Reply};
+use afr_lines::{Answer, Good, Reply, Request};
 use afr_object::{Change, Chunk, Entry, Load, View};
 use afr_rule::ReadRule;
 use afr_rule::shipped::first;
@@ -34,14 +34,11 @@ fn write_of(alloc: Global, at: u32, count: u8) -> Option<WriteMachine> {
     on_three(alloc, &[NameId(0)], WriteJob::Write { at, bytes })
 }
 
-fn hears(machine: &mut WriteMachine, heard: Heard) {
-    if !machine.is_over() {
-        machine.feed(heard, &ReadRule::new(first));
-    }
-}
-
 fn hears_one(machine: &mut WriteMachine, answer: Answer) {
-    hears(machine, Heard::Answer(answer, 3));
+    let mut request = Request::Index;
+    if let Some(brick) = machine.asks(&mut request) {
+        machine.hear(brick, &request, &answer, 3, &ReadRule::new(first));
+    }
 }
 
 /// The root was looked at, and its name gave a file.
@@ -71,7 +68,9 @@ fn begins(machine: &mut WriteMachine) {
     hears_one(machine, seen(What::File));
     hears_one(machine, seen(What::File));
     hears_one(machine, seen(What::File));
-    hears(machine, Heard::Begun(10));
+    if let Ok(Some(_)) = machine.begins(10) {
+        machine.begun(10);
+    }
 }
 
 fn carries_the_write(machine: &WriteMachine) -> bool {
@@ -86,25 +85,31 @@ fn carries_the_write(machine: &WriteMachine) -> bool {
 }
 
 /// A write of two bytes that every brick carries out, and whether its operation carried them.
-fn carried_out(alloc: Global) -> Option<(bool, Next)> {
+fn carried_out(alloc: Global) -> Option<(bool, Reply)> {
     let mut machine = write_of(alloc, 7, 2)?;
-    machine.ready().ok()?;
     begins(&mut machine);
     all_done(&mut machine);
     let carried = carries_the_write(&machine);
     all_done(&mut machine);
     all_done(&mut machine);
     all_done(&mut machine);
-    let next = machine.next(30).ok()?;
-    Some((carried, next))
+    let reply = machine.end().ok()??;
+    Some((carried, reply))
 }
 
 #[test]
 fn a_write_that_all_bricks_carry_out_ends_well(rt: HostRuntime) {
-    assert!(rt;
-        matches!(
-            carried_out(rt.alloc()),
-            Some((true, Next::End(Reply::Ok(Good::Done))))
-        )
-    );
+    assert!(rt; matches!(carried_out(rt.alloc()), Some((true, Reply::Ok(Good::Done)))));
+}
+
+/// How many bricks the register of a write has.
+fn bricks_in_register(alloc: Global) -> Option<u8> {
+    let machine = write_of(alloc, 7, 2)?;
+    machine.stays_sound();
+    Some(machine.register().shape.n)
+}
+
+#[test]
+fn the_register_is_of_the_volume(rt: HostRuntime) {
+    assert!(rt; matches!(bricks_in_register(rt.alloc()), Some(3)));
 }

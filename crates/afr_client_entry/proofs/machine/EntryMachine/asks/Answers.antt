@@ -6,5 +6,4 @@ use Rattle.afr_client_entry.proofs.AskedLemmas.{allowed_next}
 use Rattle.afr_client_entry.proofs.machine.EntryMachine.asks.Goals as goal
 
 pub returns-clause-allowed : goal.returns-clause-allowed
-returns-clause-allowed c b some =
-    subst (λ (n : Next). Allows (register_of c.args.self.now) n) (c.ask.ensures.some b some c.args._position) (allowed_next c.args.self.now c.stays_sound.ensures c.args._position)
+returns-clause-allowed c = λ b e. subst (λ (n : Next). Allows (register_of c.args.self.now) n) (c.ask.ensures.some b e 0) (allowed_next c.args.self.now c.stays_sound.ensures 0)

@@ -6,4 +6,4 @@ use Rattle.afr_client_write.proofs.WriteLemmas.{allowed_next}
 use Rattle.afr_client_write.proofs.machine.WriteMachine.asks.Goals as goal
 
 pub returns-clause-allowed : goal.returns-clause-allowed
-returns-clause-allowed c b some = subst (λ (n : Next). Allows (register_of c.args.self.now) n) (c.ask.ensures.some b some) (allowed_next c.args.self.now c.stays_sound.ensures c.args.position)
+returns-clause-allowed c = λ b e. subst (λ (n : Next). Allows (register_of c.args.self.now) n) (c.ask.ensures.some b e 0) (allowed_next c.args.self.now c.stays_sound.ensures 0)

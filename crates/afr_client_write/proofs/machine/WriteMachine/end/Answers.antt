@@ -1,0 +1,9 @@
+use Rattle.std.proofs.Common.{subst}
+use Rattle.afr_lines.specs.declared.line.Next.{Next}
+use Rattle.afr_discipline.specs.Free.{Allows}
+use Rattle.afr_client_write.specs.Write.{register_of}
+use Rattle.afr_client_write.proofs.WriteLemmas.{allowed_next}
+use Rattle.afr_client_write.proofs.machine.WriteMachine.end.Goals as goal
+
+pub returns-clause-allowed : goal.returns-clause-allowed
+returns-clause-allowed c = λ said e. subst (λ (n : Next). Allows (register_of c.args.self.now) n) (c.reply.ensures.some said e 0) (allowed_next c.args.self.now c.stays_sound.ensures 0)
