@@ -56,7 +56,10 @@ fn index_of_two(alloc: Global) -> Result<IndexList, NoMemory> {
 fn can_hear_next(machine: &RoundMachine, request: &Request, answer: &Answer) -> bool
     ensures { result ≡ true → (b : BrickId) → next_of machine.now ≡ Next.Ask b request.now → CanHear machine.now answer.now }
 {
-    machine.heal().is_none() || can_hear(request, answer)
+    match machine.heal() {
+        Some(_) => can_hear(request, answer),
+        None => true,
+    }
 }
 
 pub(crate) fn hears(machine: &mut RoundMachine, mut answer: Answer, at: u32) {

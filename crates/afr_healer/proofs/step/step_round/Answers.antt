@@ -36,3 +36,6 @@ returns-in-End-clause-ok g c =
     (stepped c.args.a c.args.position c.args.healer.now _ c.in-Some.round c.args.servers.now c.args.servers.now c.args.log.now.items _ (IsFed g.F.Fn c.args.rule.now) (next.End c.end-reply.result) c.in-Some.is
     (c.in-End.ensures.1 ∙ ap next.End (sym (c.end-reply.ensures c.in-End.ensures.0 c.in-End.ensures.1)))
     (c.ends.ensures c.args.healer.now c.args.servers.now))
+
+pub returns-in-None-clause-ok : goal.returns-in-None-clause-ok
+returns-in-None-clause-ok g c = absurd (cc (rw c.in-None.is at c.requires.busy))
