@@ -1,9 +1,11 @@
 -- A heal's lines keep the shape of its register, and its round says them.
-use Rattle.std.proofs.Common.{◌≡◌, ◌∙◌, ℕ, Bool, true, refl, ap, is_some}
+use Rattle.std.proofs.Common.{◌≡◌, ◌∙◌, ℕ, Bool, true, refl, ap, is_some, sym}
 use Rattle.afr_base.specs.declared.ids.BrickId.{BrickId}
+use Rattle.afr_base.specs.declared.ids.Shape.{Shape}
 use Rattle.afr_discipline.specs.Laws.{ShapesKept}
 use Rattle.afr_discipline.specs.declared.register.Move.TheVariants as move
 use Rattle.afr_heal.specs.Engine.{Ask, Begins, Ends, NextOfHeal}
+use Rattle.afr_heal_round.specs.List.Round.{RoundProgress}
 use Rattle.afr_heal_round.specs.Rounding.{Rounding, heal_at, is_beginning, is_ending, next_at, reply_of}
 use Rattle.afr_heal_round.specs.Rounding as round
 use Rattle.afr_heal_round.specs.declared.stage.RoundStage.{RoundStage}
@@ -62,6 +64,14 @@ pub ends_over : (b : BrickId) (stage : RoundStage) (said : Reply) → next_at b 
 ends_over b (stage_of.Asking heals) said e = absurd (cc e)
 ends_over b (stage_of.Healing m) said e = absurd (never_ends m said (coming m) e)
 ends_over b (stage_of.Over refused) said e = (refused, refl, cc e)
+
+-- a HealBegin line is noted by the heal that the round is at
+pub begun_on : (at : ℕ) (shape : Shape) (r : RoundProgress) (stage : RoundStage) (h after : Healing) → stage ≡ stage_of.Healing h → after ≡ begun at h
+    → ◌≡◌ {A = Rounding} (record { shape = shape; round = r; stage = stage_of.Healing after }) (round.begun at (record { shape = shape; round = r; stage = stage }))
+begun_on at shape r stage h after is by = ap there (ap stage_of.Healing by ∙ ap (round.begun_at at) (sym is))
+  where
+    there : RoundStage → Rounding
+    there stage = record { shape = shape; round = r; stage = stage }
 
 -- a HealBegin line leaves a round as it was where it is at no heal
 pub begun_still : (at : ℕ) (m : Rounding) → ((h : Healing) → m.stage ≡ stage_of.Healing h → ⊥) → m ≡ round.begun at m
