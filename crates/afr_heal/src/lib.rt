@@ -6,9 +6,7 @@ mod due;
 mod engine;
 mod laws;
 mod requests;
-mod room;
 
 pub use coming::Coming;
 pub use engine::heal_next;
 pub use laws::{each_heal_has_room, each_heal_is_kept, each_heal_stands, each_look_is_judged};
-pub use room::has_room;

@@ -2,11 +2,12 @@
 use Rattle.std.proofs.Common.{zero, suc, slice_get, ◌||◌, ◌≡◌, ℕ, ◌<◌, ◌≤◌, ◌==◌, ◌&&◌, ◌∙◌, not, nat_lt, Bool, true, false, List, [], ◌∷◌, refl, sym, ap, arith, filter, map, length, subst, Option, None, Some}
 use Rattle.std.proofs.lemmas.Bool.Decides.{nat_tests}
 use Rattle.std.proofs.lemmas.Bool.{eqb-true}
+use Rattle.std.specs.Option.{unwrap_or}
 use Rattle.afr_base.specs.Bricks.{all_five, below, from_table, member, minus, same}
 use Rattle.afr_base.specs.declared.ids.BrickId.{BrickId}
 use Rattle.afr_base.specs.declared.ids.Kind.{Kind}
 use Rattle.afr_base.specs.declared.ids.Kind.TheVariants as kind_of
-use Rattle.afr_heal.proofs.Finding.{find_some}
+use Rattle.afr_heal.proofs.Finding.{find_none, find_some}
 use Rattle.afr_heal.proofs.Parts.{not_both}
 use Rattle.afr_rule.specs.Choosing.{Calls, IsPick}
 use Rattle.afr_rule.specs.Copies.{copy_in}
@@ -15,10 +16,10 @@ use Rattle.afr_discipline.specs.Stands.{seen_as, views_of}
 use Rattle.afr_discipline.specs.declared.register.Register.{Register}
 use Rattle.afr_model_moves.specs.Keeps.{keeps_in}
 use Rattle.afr_model_moves.specs.Register.{good}
-use Rattle.afr_discipline.specs.Turns.{brick_of, candidate}
+use Rattle.afr_discipline.specs.Turns.{brick_of, candidate, find}
 use Rattle.afr_model_moves.proofs.Tests.{turned}
 use Rattle.afr_rule.specs.declared.candidate.Candidate.{Candidate}
-use Rattle.afr_heal_machine.specs.Source.{HasSource, IsCandidate, candidates_of}
+use Rattle.afr_heal_machine.specs.Source.{HasSource, IsCandidate, IsLowest, candidates_of}
 
 -- those of a list that pass one test, without one number, and pass another
 pub filter_minus : (p q : ℕ → Bool) (s : ℕ) (xs : List ℕ) → filter p (minus (filter q xs) (s ∷ [])) ≡ filter (λ x. q x && not (x == s) && p x) xs
@@ -121,10 +122,15 @@ chosen_is_candidate calls choose kind p chosen h = by kind h
     by kind_of.Bytes w = of_pick w
     by kind_of.Attrs w = of_pick w
 
-pub none_found : (o : Option ℕ) → brick_of o ≡ None → o ≡ None
+none_found : (o : Option ℕ) → brick_of o ≡ None → o ≡ None
 none_found None e = refl
 none_found (Some b) e = absurd (cc e)
 
-pub some_found : (o : Option ℕ) (b : BrickId) → brick_of o ≡ Some b → o ≡ Some b.0
+some_found : (o : Option ℕ) (b : BrickId) → brick_of o ≡ Some b → o ≡ Some b.0
 some_found None b e = absurd (cc e)
 some_found (Some x) b e = cc e
+
+-- where some copy may be the source, the one that was found is the lowest of them
+pub lowest_is : (p : Register) (kind : Kind) (b : BrickId) → HasSource kind p → (o : Option BrickId) → o ≡ brick_of (find p.shape.n (candidate p.shape.n (keeps_in p.shape) (seen_as p))) → b ≡ unwrap_or o (record { 0 = 0 }) → IsLowest p b
+lowest_is p kind b has None e f = absurd (not_both _ has.some.1.passes (find_none _ _ (none_found _ (sym e)) has.some.0 has.some.1.below))
+lowest_is p kind b has (Some x) e f = some_found _ b (sym e ∙ ap Some (sym f))

@@ -1,5 +1,5 @@
 -- What an answer leaves of a heal's machine.
-use Rattle.std.proofs.Common.{Bool, ◌≡◌, ◌∙◌, ◌<◌, ℕ, ap, arith, refl, subst, sym, true, false}
+use Rattle.std.proofs.Common.{Bool, ◌≡◌, ◌∙◌, ◌<◌, ℕ, ap, arith, if◌then◌else◌, refl, subst, sym, true, false}
 use Rattle.std.specs.Borrow.{Bor}
 use Rattle.std.specs.Prelude.{nat_lt}
 use Rattle.afr_base.specs.declared.ids.BrickId.{BrickId}
@@ -11,12 +11,8 @@ use Rattle.afr_discipline.specs.Stands.{heal_part_of, seen_as}
 use Rattle.afr_discipline.specs.declared.register.Move.TheVariants as move
 use Rattle.afr_discipline.specs.declared.register.HealPart.{HealPart}
 use Rattle.afr_discipline.specs.declared.register.Register.{Register}
-use Rattle.afr_heal.specs.Answers.{fits}
 use Rattle.afr_heal.specs.Carried.{MovesOf}
-use Rattle.afr_heal.specs.Coming.{comes}
 use Rattle.afr_heal.specs.Engine.{Ask, NextOfHeal}
-use Rattle.afr_heal.specs.declared.coming.Coming.{Coming}
-use Rattle.afr_heal.specs.declared.coming.Coming.TheVariants as coming_line
 use Rattle.afr_lines.specs.Told.{told_by}
 use Rattle.afr_lines.specs.declared.answer.Answer.{Answer}
 use Rattle.afr_lines.specs.declared.answer.Told.{Told}
@@ -25,24 +21,17 @@ use Rattle.afr_model_moves.proofs.Tests.{both}
 use Rattle.afr_model_moves.specs.Keeps.{keeps_in}
 use Rattle.afr_rule.specs.Choosing.{Calls}
 use Rattle.afr_heal_machine.proofs.ChoiceLemmas.{chosen_is_candidate}
-use Rattle.afr_heal_machine.proofs.ComingLemmas.{asks, heard_is}
 use Rattle.afr_heal_machine.specs.Contents.{kept}
-use Rattle.afr_heal_machine.specs.Healing.{CanHear, Healing, IsChosen, IsFed, IsHealing, IsTellable, answered, coming, register_after}
-use Rattle.afr_heal_machine.specs.Laws.{HealAllowed, HealAsksLow, HealStays}
+use Rattle.afr_heal_machine.specs.Healing.{CanHear, Healing, IsChosen, IsFed, IsHealing, answered, coming, register_after}
+use Rattle.afr_heal_machine.specs.Laws.{HealAllowed, HealAsksLow, HealHasSource, HealStays}
 use Rattle.afr_heal_machine.specs.Outcome.{cause, outcome_after, outcome_by}
-use Rattle.afr_heal_machine.specs.Source.{IsCandidate, is_found}
+use Rattle.afr_heal_machine.specs.Source.{HasSource, IsCandidate, is_found}
 use Rattle.afr_heal_machine.specs.declared.contents.ReadSoFar.{ReadSoFar}
 use Rattle.afr_heal_machine.specs.declared.outcome.HealOutcome.{HealOutcome}
 
 -- the answer comes to this request
 pub heard_can : (m seen : Healing) → m ≡ seen → (answer : Answer) → CanHear (coming seen) answer → (b : ℕ) (request : Request) → coming m ≡ Ask b request → CanHear (Ask b request) answer
 heard_can m seen e answer can b request next = subst (λ (next : NextOfHeal). CanHear next answer) next (subst (λ (m : Healing). CanHear (coming m) answer) (sym e) can)
-
--- an answer that fits can be heard
-pub hearable : (m : Healing) (b : BrickId) (request : Request) (said : Coming) (answer : Answer) (told : Told) (fit : Bool) → comes said request ≡ coming m → said ≡ coming_line.Ask b → told ≡ told_by answer
-    → fit ≡ fits request told → fit ≡ true → IsTellable told → CanHear (coming m) answer
-hearable m b request said answer told fit e f is by fitting tells =
-    subst (λ (next : NextOfHeal). CanHear next answer) (sym (asks (coming m) b request said e f)) (subst (λ (told : Told). fits request told ≡ true) is (sym by ∙ fitting), subst IsTellable is tells)
 
 -- the request goes to one of five bricks
 pub heard_small : HealAsksLow → (m : Healing) → IsHealing m → (b : ℕ) (request : Request) → coming m ≡ Ask b request → b < 5
@@ -61,6 +50,27 @@ pub heard_outcome : (p q : Register) (s : ℕ) (kind : Kind) (request : Request)
     → outcome ≡ outcome_after p.broken q.broken before caused → outcome ≡ outcome_by p q s kind request told before
 heard_outcome p q s kind request told said before outcome caused part same was is by after =
     after ∙ ap (λ (caused : HealOutcome). outcome_after p.broken q.broken before caused) (by ∙ (λ i. cause (same i) kind (heal_part_of (was i)) (heal_part_of q.part) s q.seen q.looked request (is i)))
+
+-- where the first looks are over, a copy may be the source
+pub heard_source : HealHasSource → (m : Healing) (b : ℕ) (request : Request) (answer : Answer) (at : ℕ) → IsHealing m → coming m ≡ Ask b request → CanHear (Ask b request) answer
+    → (q : Register) → q ≡ register_after m b request answer at → q.shape ≡ m.register.shape → is_found q.shape.n (seen_as q) ≡ true → HasSource m.kind q
+heard_source law m b request answer at k next can q e same found =
+    let found_before : is_found m.register.shape.n (seen_as (register_after m b request answer at)) ≡ true =
+    subst (λ (q : Register). is_found m.register.shape.n (seen_as q) ≡ true) e (subst (λ (shape : Shape). is_found shape.n (seen_as q) ≡ true) same found) in
+    subst (λ (q : Register). HasSource m.kind q) (sym e) (law m b request answer at k next can found_before)
+
+-- the heal with the new register, source, outcome and contents
+pub heard_is : (m : Healing) (b : ℕ) (request : Request) (answer : Answer) (at : ℕ) (q : Register) (source : BrickId) (outcome : HealOutcome) (contents : ReadSoFar)
+    → q ≡ register_after m b request answer at → q.shape ≡ m.register.shape → (is_found q.shape.n (seen_as q) ≡ false → source ≡ m.source) → outcome ≡ outcome_by m.register q m.source.0 m.kind request (told_by answer) m.outcome
+    → contents ≡ kept b answer m.contents → record { gfid = m.gfid; kind = m.kind; register = q; source = source; outcome = outcome; contents = contents } ≡ answered m b request answer at source
+heard_is m b request answer at q source outcome contents e same stays o c =
+    let whole = o ∙ ap (λ (q : Register). outcome_by m.register q m.source.0 m.kind request (told_by answer) m.outcome) e in
+    let left = by (is_found m.register.shape.n (seen_as (register_after m b request answer at))) refl in
+    λ i. record { gfid = m.gfid; kind = m.kind; register = e i; source = left i; outcome = whole i; contents = c i }
+  where
+    by : (f : Bool) → is_found m.register.shape.n (seen_as (register_after m b request answer at)) ≡ f → source ≡ (if f then source else m.source)
+    by true f = refl
+    by false f = stays (subst (λ (shape : Shape). is_found shape.n (seen_as q) ≡ false) (sym same) (subst (λ (q : Register). is_found m.register.shape.n (seen_as q) ≡ false) (sym e) f))
 
 module _ {F : Type 0} (calls : Calls F) (choose : F) (m : Healing) (b : ℕ) (request : Request) (answer : Answer) (at : ℕ) (q : Register) (source : BrickId) (outcome : HealOutcome) (contents : ReadSoFar) (e : q ≡ register_after m b request answer at) (same : q.shape ≡ m.register.shape)
     (chosen : is_found q.shape.n (seen_as q) ≡ true → IsChosen calls choose m.kind q source) (stays : is_found q.shape.n (seen_as q) ≡ false → source ≡ m.source) (ends : outcome ≡ outcome_by m.register q m.source.0 m.kind request (told_by answer) m.outcome) (keeps : contents ≡ kept b answer m.contents) where

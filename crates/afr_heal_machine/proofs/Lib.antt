@@ -1,5 +1,4 @@
 mod ChoiceLemmas
-mod ComingLemmas
 pub mod FoundLemmas
 mod HearLemmas
 mod NotedLemmas

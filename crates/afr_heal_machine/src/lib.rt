@@ -1,7 +1,6 @@
 //! The machine of a heal of one kind of one object: its engine, the source that the rule picked, and the contents that it read.
 #![tactic(auto)]
 
-mod answers;
 mod causes;
 mod choosing;
 mod contents;

@@ -1,15 +1,16 @@
 //! The machine of a heal: what it asks next, and what it makes of the answers.
-ghost use Rattle.std.specs.Prelude.{◌≡◌, ◌<◌, ◌≤◌, ◌||◌, IfOk, None, OnOk, OnErr, Some, not, true};
+ghost use Rattle.std.specs.Prelude.{◌≡◌, ◌<◌, ◌≤◌, ◌||◌, IfOk, OnOk, OnErr, not};
 ghost use Rattle.afr_discipline.specs.Stands.{heal_part_of, seen_as};
-ghost use Rattle.afr_heal.specs.Engine.{Begins};
+ghost use Rattle.afr_heal.specs.Coming.{comes};
+ghost use Rattle.afr_heal.specs.Engine.{Ask, Begins};
 ghost use Rattle.afr_model_moves.specs.Keeps.{keeps_in};
 ghost use Rattle.afr_model_moves.specs.Register.{is_opening};
 ghost use Rattle.afr_model_moves.specs.Steps.{looks_over};
 ghost use Rattle.afr_rule.specs.Choosing.{IsRule};
 ghost use Rattle.afr_heal_machine.specs.Contents.{load_in};
-ghost use Rattle.afr_heal_machine.specs.Healing.{CanHear, IsFed, IsHealing, begun, coming, heal_from, made_ready, next_of};
+ghost use Rattle.afr_heal_machine.specs.Healing.{CanHear, IsFed, IsHealing, begun, coming, heal_from, made_ready};
+ghost use Rattle.afr_heal_machine.specs.Outcome.{reply_of};
 
-use crate::answers::{fits, is_tellable};
 use crate::causes::outcome_after;
 use crate::contents::{ReadSoFar, keep, load, nothing, ready};
 use crate::ending::ending;
@@ -19,7 +20,7 @@ use crate::outcome::HealOutcome;
 use afr_base::{BrickId, Gfid, Kind, NoMemory, Shape};
 use afr_discipline::{Move, Register, fresh, note, present_part, renew};
 use afr_heal::{Coming, heal_next};
-use afr_lines::{Answer, Next, Request, Told, told_of};
+use afr_lines::{Answer, HealReply, Request, Told};
 use afr_object::Load;
 use afr_rule::{Candidate, SourceRule};
 use std::alloc::Global;
@@ -93,36 +94,18 @@ impl HealMachine {
         ready(&mut self.contents, self.alloc)
     }
 
-    /// The next line. Only the views in a split's end take memory.
-    pub fn next(&self) -> Result<Next, NoMemory>
-        ensures { IfOk result (λ next. next ≡ next_of self.now) }
+    /// What the next line is; a request is written where it is to stand.
+    pub fn asks(&self, request: &mut Request) -> Coming
+        ensures { comes result request.new ≡ coming self.now }
     {
-        let mut request = Request::Index;
-        match heal_next(
-            &self.register,
-            self.source,
-            self.gfid,
-            self.kind,
-            &mut request,
-        ) {
-            Coming::Ask(brick) => Ok(Next::Ask(brick, request)),
-            Coming::Begin => Ok(Next::HealBegin(self.gfid, self.kind)),
-            Coming::End => {
-                let reply = ending(self.alloc, self.outcome, &self.register.seen)?;
-                Ok(Next::HealEnd(self.gfid, self.kind, reply))
-            }
-        }
+        heal_next(&self.register, self.source, self.gfid, self.kind, request)
     }
 
-    /// Whom the next line asks, where it is a request; that is written where it is to stand.
-    pub fn asks(&self, request: &mut Request) -> Option<BrickId>
-        ensures some { (b : BrickId) → result ≡ Some b → next_of self.now ≡ Next.Ask b request.new }
-        ensures none { (b : BrickId) (asked : Request) → result ≡ None → next_of self.now ≡ Next.Ask b asked → ⊥ }
+    /// The reply of the heal's end. Only the views of a split take memory.
+    pub fn end(&self) -> Result<HealReply, NoMemory>
+        ensures { IfOk result (λ reply. reply ≡ reply_of self.now.outcome self.now.register.seen) }
     {
-        match heal_next(&self.register, self.source, self.gfid, self.kind, request) {
-            Coming::Ask(brick) => Some(brick),
-            Coming::Begin | Coming::End => None,
-        }
+        ending(self.alloc, self.outcome, &self.register.seen)
     }
 
     /// What was read, which goes with a repair.
@@ -143,7 +126,7 @@ impl HealMachine {
         rule: &SourceRule<F>,
     )
         requires rule { IsRule F.Fn rule.now }
-        requires asked { next_of self.old ≡ Next.Ask brick request.now }
+        requires asked { coming self.old ≡ Ask brick.0 request.now }
         requires can { CanHear (coming self.old) answer.old }
         ensures { IsFed F.Fn rule.now answer.old at self.old self.new }
     {
@@ -164,41 +147,6 @@ impl HealMachine {
         );
         self.source = source_after(&self.register, self.kind, self.source, rule);
         keep(&mut self.contents, brick, answer);
-    }
-
-    /// Whether bricks give this answer to the next line.
-    pub fn can_hear(&self, answer: &Answer) -> bool
-        ensures { result ≡ true → CanHear (coming self.now) answer.now }
-    {
-        let mut request = Request::Index;
-        match heal_next(
-            &self.register,
-            self.source,
-            self.gfid,
-            self.kind,
-            &mut request,
-        ) {
-            Coming::Ask(_) => {
-                let told = told_of(answer);
-                fits(&request, &told) && is_tellable(&told)
-            }
-            Coming::Begin | Coming::End => false,
-        }
-    }
-
-    /// Whether the next line is a HealBegin line.
-    pub fn is_beginning(&self) -> bool
-        ensures { result ≡ true → coming self.now ≡ Begins }
-    {
-        let mut request = Request::Index;
-        let coming = heal_next(
-            &self.register,
-            self.source,
-            self.gfid,
-            self.kind,
-            &mut request,
-        );
-        matches!(coming, Coming::Begin)
     }
 
     /// The HealBegin line was written at this position.

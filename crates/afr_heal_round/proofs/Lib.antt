@@ -1,4 +1,4 @@
 pub mod List
 pub mod Fed
 mod Indexed
-mod Shapes
+pub mod Shapes

@@ -7,6 +7,8 @@ use Rattle.afr_base.specs.declared.ids.Shape.{Shape}
 use Rattle.afr_base.specs.declared.ids.What.{What}
 use Rattle.afr_heal_round.specs.List.Round.{RoundProgress, next_due, with_list, without_next}
 use Rattle.afr_heal_round.specs.List.Round as round
+use Rattle.afr_heal_round.specs.declared.coming.RoundComing.{RoundComing}
+use Rattle.afr_heal_round.specs.declared.coming.RoundComing.TheVariants as coming_of
 use Rattle.afr_heal_round.specs.declared.stage.RoundStage.{RoundStage}
 use Rattle.afr_heal_round.specs.declared.stage.RoundStage.TheVariants.{Asking, Healing, Over}
 use Rattle.afr_lines.specs.declared.answer.Answer.{Answer}
@@ -16,6 +18,7 @@ use Rattle.afr_lines.specs.declared.line.Next.TheVariants as next
 use Rattle.afr_lines.specs.declared.reply.Good.TheVariants.{Done}
 use Rattle.afr_lines.specs.declared.reply.Reply.{Reply}
 use Rattle.afr_lines.specs.declared.reply.Reply.TheVariants.{Failed, Ok}
+use Rattle.afr_lines.specs.declared.request.Request.{Request}
 use Rattle.afr_lines.specs.declared.request.Request.TheVariants.{Index}
 use Rattle.afr_object.specs.declared.change.Load.{Load}
 use Rattle.afr_object.specs.declared.change.Load.TheVariants.{Nothing}
@@ -23,6 +26,7 @@ use Rattle.afr_rule.specs.Choosing.{Calls}
 use Rattle.afr_heal_machine.specs.Contents.{load_in}
 use Rattle.afr_heal_machine.specs.Healing as heal
 use Rattle.afr_heal_machine.specs.Healing.{Healing as Heal, IsHealing, coming, heal_from}
+use Rattle.afr_heal_machine.specs.Outcome as outcome
 
 -- a round: its list and how far it is in it, and where it stands
 pub record Rounding : Type 0 where
@@ -46,6 +50,17 @@ next_at b (Over refused) = next.End (reply_of refused)
 
 abbrev pub next_of : Rounding → Next
 next_of m = next_at m.round.brick m.stage
+
+-- the line is the one that the round says, where the request that stands beside is this
+abbrev pub Comes : RoundComing → Request → Next → Type 0
+Comes (coming_of.Ask b) request line = line ≡ next.Ask b request
+Comes (coming_of.Begin m) request line = line ≡ next.HealBegin m.now.gfid m.now.kind
+Comes (coming_of.HealEnd m) request line = line ≡ next.HealEnd m.now.gfid m.now.kind (outcome.reply_of m.now.outcome m.now.register.seen)
+Comes coming_of.End request line = (said : Reply) × (line ≡ next.End said)
+
+-- the same of a heal's next line
+abbrev pub HealComes : RoundComing → Request → Heal → Type 0
+HealComes said request m = Comes said request (heal.next_of m)
 
 -- the next line begins a part of a heal, or ends a heal
 abbrev pub is_beginning : Next → Bool

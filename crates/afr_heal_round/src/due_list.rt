@@ -2,4 +2,4 @@
 
 mod round;
 
-pub use round::Round;
+pub(crate) use round::Round;

@@ -1,15 +1,18 @@
 //! A round: what it asks next, and what it makes of the answers.
-ghost use Rattle.std.specs.Prelude.{◌≡◌, ◌<◌, ◌≤◌, true, IfOk, None, OnOk, OnErr, Some, is_some, option_map};
+ghost use Rattle.std.specs.Prelude.{◌≡◌, ◌<◌, ◌≤◌, true, IfOk, OnOk, OnErr, Some, is_some, option_map};
+ghost use Rattle.afr_lines.specs.declared.line.Next.{Next};
 ghost use Rattle.afr_rule.specs.Choosing.{IsRule};
 ghost use Rattle.afr_heal_round.specs.List.Round.{next_due, without_next};
-ghost use Rattle.afr_heal_round.specs.Rounding.{CanHear, CarriesNext, IsFed, IsRounding, IsStaged, begun, heal_at, healed, indexed, is_beginning, is_ending, made_ready, next_of, reply_of, round_from, round_given, round_indexed, stage_due, stage_given, stage_indexed, task_from};
+ghost use Rattle.afr_heal_round.specs.Rounding.{CanHear, CarriesNext, Comes, HealComes, IsFed, IsStaged, begun, heal_at, healed, indexed, is_beginning, is_ending, made_ready, next_of, reply_of, round_from, round_given, round_indexed, stage_due, stage_given, stage_indexed, task_from};
 
+use crate::coming::RoundComing;
 use crate::due_list::Round;
 use crate::stage::RoundStage;
 use afr_base::{BrickId, Gfid, Kind, NoMemory, Shape, What};
 use afr_discipline::each_note_stands;
+use afr_heal::Coming;
 use afr_heal_machine::HealMachine;
-use afr_lines::{Answer, Good, Next, Reply, Request};
+use afr_lines::{Answer, Good, Reply, Request};
 use afr_object::{List, Load};
 use afr_rule::{Candidate, SourceRule};
 use std::alloc::Global;
@@ -85,29 +88,27 @@ impl RoundMachine {
         }
     }
 
-    /// The next line. Only the views in a split's end take memory.
-    pub fn next(&self) -> Result<Next, NoMemory>
-        ensures { IfOk result (λ next. next ≡ next_of self.now) }
-    {
-        match &self.stage {
-            RoundStage::Asking { .. } => Ok(Next::Ask(self.round.brick(), Request::Index)),
-            RoundStage::Healing(heal) => heal.next(),
-            RoundStage::Over { refused } => Ok(Next::End(ending(*refused))),
-        }
-    }
-
-    /// Whom the next line asks, where it is a request; that is written where it is to stand.
-    pub fn asks(&self, request: &mut Request) -> Option<BrickId>
-        ensures some { (b : BrickId) → result ≡ Some b → next_of self.now ≡ Next.Ask b request.new }
-        ensures none { (b : BrickId) (asked : Request) → result ≡ None → next_of self.now ≡ Next.Ask b asked → ⊥ }
+    /// What the next line is; a request is written where it is to stand.
+    pub fn asks(&self, request: &mut Request) -> RoundComing<'_>
+        ensures { Comes result request.new (next_of self.now) }
     {
         match &self.stage {
             RoundStage::Asking { .. } => {
                 *request = Request::Index;
-                Some(self.round.brick())
+                RoundComing::Ask(self.round.brick())
             }
-            RoundStage::Healing(heal) => heal.asks(request),
-            RoundStage::Over { .. } => None,
+            RoundStage::Healing(heal) => heal_asks(heal, request),
+            RoundStage::Over { .. } => RoundComing::End,
+        }
+    }
+
+    /// The reply of the round: it fails where its index was refused.
+    pub fn end(&self) -> Reply
+        ensures { (said : Reply) → next_of self.now ≡ Next.End said → result ≡ said }
+    {
+        match &self.stage {
+            RoundStage::Over { refused } => ending(*refused),
+            _ => ending(false),
         }
     }
 
@@ -145,7 +146,7 @@ impl RoundMachine {
                 heal.hear(brick, request, answer, at, rule);
                 heal.stays_sound();
             }
-            RoundStage::Over { .. } => unreachable!(),
+            RoundStage::Over { .. } => {}
         }
     }
 
@@ -155,17 +156,6 @@ impl RoundMachine {
         ensures { self.new ≡ indexed heals answer.old self.old }
     {
         self.stage = indexed(self.alloc, self.shape, heals, &mut self.round, answer);
-    }
-
-    /// Whether bricks give this answer to the next line.
-    pub fn can_hear(&self, answer: &Answer) -> bool
-        ensures { result ≡ true → CanHear self.now answer.now }
-    {
-        match &self.stage {
-            RoundStage::Asking { .. } => true,
-            RoundStage::Healing(heal) => heal.can_hear(answer),
-            RoundStage::Over { .. } => false,
-        }
     }
 
     /// The HealBegin line of a heal's part was written at this position.
@@ -179,7 +169,7 @@ impl RoundMachine {
                 heal.begun(at);
                 heal.stays_sound();
             }
-            _ => unreachable!(),
+            _ => {}
         }
     }
 
@@ -200,12 +190,16 @@ impl RoundMachine {
             RoundStage::Asking { .. } | RoundStage::Over { .. } => None,
         }
     }
+}
 
-    /// What the round keeps at every moment, for those who prove over its value.
-    pub fn stays_sound(&self)
-        ensures { IsRounding self.now }
-    {
-        let _ = &self.stage;
+/// The next line of a heal, as its round says it.
+fn heal_asks<'a>(heal: &'a HealMachine, request: &mut Request) -> RoundComing<'a>
+    ensures { HealComes result request.new heal.now }
+{
+    match heal.asks(request) {
+        Coming::Ask(brick) => RoundComing::Ask(brick),
+        Coming::Begin => RoundComing::Begin(heal),
+        Coming::End => RoundComing::HealEnd(heal),
     }
 }
 
@@ -290,7 +284,7 @@ fn begin_next(_shape: Shape, gfid: Gfid, kind: Kind, stage: &mut RoundStage)
             heal.begin_again(gfid, kind);
             heal.stays_sound();
         }
-        _ => unreachable!(),
+        _ => {}
     }
 }
 

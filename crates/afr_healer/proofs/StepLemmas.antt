@@ -1,32 +1,26 @@
 -- A line of a healer, put together from its parts.
-use Rattle.std.proofs.Common.{◌≡◌, ℕ, List, Some, sym, subst}
+use Rattle.std.proofs.Common.{◌≡◌, ◌∙◌, ℕ, List, Some, sym, subst}
 use Rattle.afr_base.specs.declared.ids.ActorId.{ActorId}
-use Rattle.afr_heal.specs.Engine.{Ask, Begins, Ends, NextOfHeal as Coming}
-use Rattle.afr_heal_round.specs.Rounding.{Rounding, next_at, next_of}
-use Rattle.afr_heal_round.specs.declared.stage.RoundStage.{RoundStage}
-use Rattle.afr_heal_round.specs.declared.stage.RoundStage.TheVariants.{Asking, Healing, Over}
+use Rattle.afr_base.specs.declared.ids.Gfid.{Gfid}
+use Rattle.afr_base.specs.declared.ids.Kind.{Kind}
+use Rattle.afr_heal_machine.specs.Healing.{Healing as Heal}
+use Rattle.afr_heal_machine.specs.Outcome.{reply_of}
+use Rattle.afr_heal_round.specs.Rounding.{Rounding, next_of}
 use Rattle.afr_lines.specs.declared.line.Line.{Line}
 use Rattle.afr_lines.specs.declared.line.Next.{Next}
 use Rattle.afr_lines.specs.declared.line.Next.TheVariants as next
-use Rattle.afr_object.specs.declared.change.Change.{Change}
-use Rattle.afr_healer.specs.Acting.{Adds, Hearing, Stepped, SteppedBy, WrittenBy}
+use Rattle.afr_lines.specs.declared.reply.HealReply.{HealReply}
+use Rattle.afr_healer.specs.Acting.{Adds, Hearing, Stepped, SteppedBy}
 use Rattle.afr_healer.specs.declared.healer.Healer.{Healer}
-use Rattle.afr_heal_machine.specs.Healing.{Healing as Heal, coming, line_of}
 use Rattle.afr_server.specs.Serving.{Serving}
 
--- a round begins no attempt
-pub no_begin : (m : Rounding) (change : Change) → next_of m ≡ next.Begin change → ⊥
-no_begin m change e = by_stage m.stage e
-  where
-    by_coming : (h : Heal) (n : Coming) → line_of h n ≡ next.Begin change → ⊥
-    by_coming h (Ask b request) e = absurd (cc e)
-    by_coming h Begins e = absurd (cc e)
-    by_coming h Ends e = absurd (cc e)
+-- the end of a heal, with the object, the kind and the reply that its machine gives
+pub heal_end_is : (line : Next) (h : Heal) (g : Gfid) (kind : Kind) (said : HealReply) → line ≡ next.HealEnd h.gfid h.kind (reply_of h.outcome h.register.seen) → g ≡ h.gfid → kind ≡ h.kind → said ≡ reply_of h.outcome h.register.seen → line ≡ next.HealEnd g kind said
+heal_end_is line h g kind said is one two three = is ∙ (λ i. next.HealEnd (sym one i) (sym two i) (sym three i))
 
-    by_stage : (stage : RoundStage) → next_at m.round.brick stage ≡ next.Begin change → ⊥
-    by_stage (Asking heals) e = absurd (cc e)
-    by_stage (Healing h) e = by_coming h (coming h) e
-    by_stage (Over refused) e = absurd (cc e)
+-- the beginning of a part, with the object and the kind that its machine gives
+pub heal_begin_is : (line : Next) (h : Heal) (g : Gfid) (kind : Kind) → line ≡ next.HealBegin h.gfid h.kind → g ≡ h.gfid → kind ≡ h.kind → line ≡ next.HealBegin g kind
+heal_begin_is line h g kind is one two = is ∙ (λ i. next.HealBegin (sym one i) (sym two i))
 
 module _ (a : ActorId) (at : ℕ) (x y : Healer) (m : Rounding) (old new : List Serving) (before after : List Line) where
   -- the line of the present round is one line of the healer
@@ -37,18 +31,3 @@ module _ (a : ActorId) (at : ℕ) (x y : Healer) (m : Rounding) (old new : List 
     added = adds.added;
     is_so = record { round = m; present = present; steps = subst (λ (n : Next). SteppedBy Hears a at x y m old new adds.line n) (sym is) adds.is_so };
   }
-
-  -- the line that the present round writes
-  pub wrote : (line : Next) → next_of m ≡ line → Adds (λ (written : Line). WrittenBy a at x y m old written line) before after → Adds (λ (written : Line). WrittenBy a at x y m old written (next_of m)) before after
-  wrote line is adds = subst (λ (n : Next). Adds (λ (written : Line). WrittenBy a at x y m old written n) before after) (sym is) adds
-
-  -- a line that is no request is one line of the healer, whatever it hears
-  pub stepped_unheard : (Hears : Hearing) → x.round ≡ Some m → Adds (λ (written : Line). WrittenBy a at x y m old written (next_of m)) before after → Adds (λ (written : Line). Stepped Hears a at x y old old written) before after
-  stepped_unheard Hears present adds = record { line = adds.line; added = adds.added; is_so = record { round = m; present = present; steps = unheard (next_of m) adds.is_so } }
-    where
-      unheard : (line : Next) → WrittenBy a at x y m old adds.line line → SteppedBy Hears a at x y m old old adds.line line
-      unheard (next.Ask b request) k = absurd k
-      unheard (next.HealBegin g kind) k = k
-      unheard (next.HealEnd g kind said) k = k
-      unheard (next.End said) k = k
-      unheard (next.Begin change) k = absurd k

@@ -119,18 +119,6 @@ SteppedBy Hears a at x y m old new written (next.HealEnd g kind said) = IsHealed
 SteppedBy Hears a at x y m old new written (next.End said) = IsEnded a said x y old new written
 SteppedBy Hears a at x y m old new written (next.Begin change) = ⊥
 
--- the same of a line that is no request, which asks no rule and leaves the bricks as they are
-abbrev pub WrittenBy : ActorId → ℕ → Healer → Healer → Rounding → List Serving → Line → Next → Type 0
-WrittenBy a at x y m bricks written (next.HealBegin g kind) = IsBegun a at g kind x y m bricks bricks written
-WrittenBy a at x y m bricks written (next.HealEnd g kind said) = IsHealed a g kind said x y m bricks bricks written
-WrittenBy a at x y m bricks written (next.End said) = IsEnded a said x y bricks bricks written
-WrittenBy a at x y m bricks written other = ⊥
-
--- a healer after a line that is no request: its round is over, or goes on
-abbrev pub written_on : Bool → Healer → Visit → Rounding → Healer
-written_on true x v m = record { ended = x.ended + 1; killed = x.killed; visit = v; round = None }
-written_on false x v m = record x { visit = v; round = Some m }
-
 -- one line of a healer whose round has begun
 pub record Stepped (Hears : Hearing) (a : ActorId) (at : ℕ) (x y : Healer) (old new : List Serving) (written : Line) : Type 0 where
   pub round : Rounding

@@ -1,17 +1,18 @@
 //! One line of a healer.
-ghost use Rattle.std.specs.Prelude.{◌≡◌, ◌<◌, ◌≤◌, ◌^◌, ◌+◌, ◌-◌, ◌++◌, ◌∷◌, [], List, IfOk, None, OnOk, OnErr, Some, is_some, true};
+ghost use Rattle.std.specs.Prelude.{◌≡◌, ◌<◌, ◌≤◌, ◌^◌, ◌+◌, ◌-◌, ◌++◌, ◌∷◌, [], List, None, OnOk, OnErr, Some, is_some, true};
 ghost use Rattle.afr_heal_round.specs.Rounding.{CanHear, IsFed, next_of, round_from, task_from};
-ghost use Rattle.afr_healer.specs.Acting.{Adds, CanStep, CanStepWith, IsAsked, IsBegun, IsEnded, IsHealed, Readies, Stepped, WrittenBy, met_after, written_on};
+ghost use Rattle.afr_healer.specs.Acting.{Adds, CanStep, CanStepWith, IsAsked, IsBegun, IsEnded, IsHealed, Readies, Stepped, met_after};
 ghost use Rattle.afr_healer.specs.declared.healer.Healer.{Healer};
+ghost use Rattle.afr_lines.specs.declared.line.Next.{Next};
 ghost use Rattle.afr_rule.specs.Choosing.{IsRule};
 ghost use Rattle.afr_server.specs.NextLine.{told_line};
 ghost use Rattle.afr_server.specs.Serving.{Serving};
 
 use crate::healer::Healer;
 use afr_base::{ActorId, BrickId, Gfid, Kind, NoMemory, Shape, What};
-use afr_heal_round::RoundMachine;
+use afr_heal_round::{RoundComing, RoundMachine};
 use afr_law_fits::{fits_its_types, request_fits_its_types};
-use afr_lines::{HealReply, Line, Next, Reply, Request};
+use afr_lines::{HealReply, Line, Reply, Request};
 use afr_log::Log;
 use afr_rule::{Candidate, SourceRule};
 use afr_server::Served;
@@ -89,7 +90,7 @@ pub fn step_round<F: Fn(&[Candidate]) -> usize>(
 {
     match &mut healer.round {
         Some(round) => match round.asks(&mut exchange.request) {
-            Some(brick) => {
+            RoundComing::Ask(brick) => {
                 let visit = &mut healer.visit;
                 asks(
                     round,
@@ -104,14 +105,27 @@ pub fn step_round<F: Fn(&[Candidate]) -> usize>(
                     rule,
                 )
             }
-            None => {
-                if writes(round, &mut healer.visit, a, position, log)? {
-                    closes(healer);
-                }
+            RoundComing::Begin(heal) => {
+                let gfid = heal.gfid();
+                let kind = heal.kind();
+                heal_begins(round, a, gfid, kind, position, log);
+                Ok(())
+            }
+            RoundComing::HealEnd(heal) => {
+                let gfid = heal.gfid();
+                let kind = heal.kind();
+                let reply = heal.end()?;
+                heal_ends(round, &mut healer.visit, a, gfid, kind, reply, log);
+                Ok(())
+            }
+            RoundComing::End => {
+                let reply = round.end();
+                ends(&mut healer.visit, a, reply, log);
+                closes(healer);
                 Ok(())
             }
         },
-        None => unreachable!(),
+        None => Ok(()),
     }
 }
 
@@ -123,39 +137,6 @@ fn closes(healer: &mut Healer)
 {
     healer.ended += 1;
     healer.round = None;
-}
-
-/// A line that is no request: a part of a heal begins, a heal ends, or the round, which is answered. It stands apart, so that
-/// only such lines pay for its frame.
-#[inline(never)]
-fn writes(
-    round: &mut RoundMachine,
-    visit: &mut Visit,
-    a: ActorId,
-    position: u32,
-    log: &mut Log,
-) -> Result<bool, NoMemory>
-    requires other { (b : BrickId) (request : Request) → next_of round.old ≡ Next.Ask b request → ⊥ }
-    requires space { log.old.room ≡ true }
-    ensures ok { IfOk result (λ over. (x : Healer) (bricks : List Serving) → Adds (λ line. WrittenBy a position (record x { visit = visit.old }) (written_on over x visit.new round.new) round.old bricks line (next_of round.old)) log.old.items log.new.items) }
-    ensures err { OnErr result ((round.new ≡ round.old) × (visit.new ≡ visit.old) × (log.new.items ≡ log.old.items)) }
-{
-    match round.next()? {
-        Next::HealBegin(gfid, kind) => {
-            heal_begins(round, a, gfid, kind, position, log);
-            Ok(false)
-        }
-        Next::HealEnd(gfid, kind, reply) => {
-            heal_ends(round, visit, a, gfid, kind, reply, log);
-            Ok(false)
-        }
-        Next::End(reply) => {
-            ends(visit, a, reply, log);
-            Ok(true)
-        }
-        Next::Ask(..) => unreachable!(),
-        Next::Begin(_) => unreachable!(),
-    }
 }
 
 /// What is left of the sessions: after an index the first heal opens them anew.

@@ -1,12 +1,8 @@
-//! Tests of a heal: the lines that it asks, with the answers of three bricks, up to its end.
+//! Tests of heals and rounds: the lines that they write, with the answers of three bricks, up to their end.
 #![tactic(auto)]
 
 #[cfg(test)]
-mod heals;
-#[cfg(test)]
-mod lines;
-#[cfg(test)]
-mod list_tests;
+mod answers;
 #[cfg(test)]
 mod machine_tests;
 #[cfg(test)]

@@ -11,6 +11,7 @@ ghost use Rattle.afr_volume.specs.Turning.{StepsHealerAt};
 
 use crate::healers::step_healer;
 use afr_base::{ActorId, BrickId, FIRST_HEALER, NoMemory};
+use afr_heal_round::RoundComing;
 use afr_healer::Healer;
 use afr_lines::{Line, Request, Told};
 use afr_log::Log;
@@ -111,7 +112,10 @@ fn asks_whom(healer: &Healer) -> Option<BrickId>
 {
     let mut request = Request::Index;
     let round = healer.round.as_ref()?;
-    round.asks(&mut request)
+    match round.asks(&mut request) {
+        RoundComing::Ask(brick) => Some(brick),
+        _ => None,
+    }
 }
 
 /// Keeps what was shown for the line at this place, if that was given it.

@@ -1,5 +1,5 @@
 //! A round over the heal index of one brick.
-ghost use Rattle.std.specs.Prelude.{◌≡◌, ◌-◌, ◌^◌, ◌<◌, IfSome, is_some};
+ghost use Rattle.std.specs.Prelude.{◌≡◌, ◌-◌, ◌^◌, ◌<◌, IfSome};
 ghost use Rattle.afr_heal_round.specs.List.Round.{begun, kind_at, listed_at, next_due, with_list, without_next};
 ghost use Rattle.afr_model.specs.Rounds.{kind_within};
 
@@ -47,13 +47,6 @@ impl Round {
         self.brick
     }
 
-    /// Whether the brick has shown its list.
-    pub fn has_list(&self) -> bool
-        ensures { result ≡ is_some self.now.list }
-    {
-        self.list.is_some()
-    }
-
     /// The brick's index has this list. The heals are those of the list, from the first on.
     pub fn give_list(&mut self, list: IndexList)
         ensures { self.new ≡ with_list list self.old }
@@ -61,15 +54,6 @@ impl Round {
         self.list = Some(list);
         self.at = 0;
         self.within = false;
-    }
-
-    /// What `next_heal` would give.
-    #[tactic(auto, using(crate::proofs::List::Heals::heal_here))]
-    pub fn peek(&self) -> Option<(Gfid, Kind)>
-        ensures { result ≡ next_due self.now }
-    {
-        let (object, what) = object_at(&self.list, self.at)?;
-        Some((object, kind_at(self.within, what)))
     }
 
     /// The object and kind that are healed next; none where all were given, or no list was.

@@ -1,10 +1,11 @@
 //! Heals on three bricks, of which the last missed a change, line by line.
 use crate::machine_tests::lines::{
     OBJECT, asks, carries_attrs, heal_of, hears, hears_done, names_carried, reply_of, sees_behind,
+    unlocks,
 };
 use afr_base::{BrickId, Gfid, Kind, NameId, NoMemory, What};
 use afr_heal_machine::{HealMachine, HealOutcome};
-use afr_lines::{Answer, HealReply, Request};
+use afr_lines::{Answer, Area, Domain, HealReply, Request};
 use afr_object::{Entry, List, NameList, Repair};
 use std::alloc::Global;
 
@@ -28,6 +29,40 @@ fn attributes_are_read_at_the_source_and_put_at_the_others(rt: HostRuntime) {
     assert!(rt; matches!(reply_of(&machine), Some(HealReply::Settled)));
     assert!(rt; machine.gfid() == OBJECT && machine.kind() == Kind::Attrs);
     assert!(rt; !machine.register().broken);
+}
+
+#[test]
+fn bytes_are_cut_first_and_then_copied_in_a_piece(rt: HostRuntime) {
+    let mut machine = heal_of(rt.alloc(), Kind::Bytes);
+    sees_behind(&mut machine, What::File, Kind::Bytes);
+    assert!(rt; matches!(asks(&machine, 1), Some(Request::Pre { .. })));
+    hears(&mut machine, Answer::Done, 11);
+    hears(&mut machine, Answer::Done, 12);
+    assert!(rt;
+        matches!(
+            asks(&machine, 1),
+            Some(Request::Mend {
+                repair: Repair::CutTo { len: 7, .. }
+            })
+        )
+    );
+    hears(&mut machine, Answer::Done, 13);
+    hears(&mut machine, Answer::Done, 14);
+    assert!(rt; unlocks(&machine, Domain::Work, 0));
+    hears_done(&mut machine, 15);
+    assert!(rt;
+        matches!(
+            asks(&machine, 0),
+            Some(Request::Lock {
+                area: Area::Range {
+                    from: 0,
+                    to: 131_072,
+                    ..
+                },
+                ..
+            })
+        )
+    );
 }
 
 fn names(alloc: Global, first: u32, second: u32) -> Result<NameList, NoMemory> {

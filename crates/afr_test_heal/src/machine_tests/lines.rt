@@ -1,7 +1,9 @@
 //! The lines of the tests: what a heal asks next, and the answers that it hears.
+use crate::answers::can_hear;
 use afr_base::{AllMarks, Gfid, Kind, Marks, Shape, What};
+use afr_heal::Coming;
 use afr_heal_machine::HealMachine;
-use afr_lines::{Answer, HealReply, Next, Request};
+use afr_lines::{Answer, Domain, HealReply, Request};
 use afr_object::{Load, View};
 use afr_rule::SourceRule;
 use afr_rule::shipped::longest;
@@ -40,8 +42,8 @@ pub(crate) fn seen(what: What, kind: Kind, missed: bool) -> Answer {
 pub(crate) fn hears(machine: &mut HealMachine, mut answer: Answer, at: u32) {
     let rule = SourceRule::new(longest);
     let mut request = Request::Index;
-    if let Some(brick) = machine.asks(&mut request) {
-        if machine.can_hear(&answer) {
+    if let Coming::Ask(brick) = machine.asks(&mut request) {
+        if can_hear(&request, &answer) {
             machine.hear(brick, &request, &mut answer, at, &rule);
         }
     }
@@ -60,13 +62,19 @@ pub(crate) fn hears_granted(machine: &mut HealMachine, at: u32) {
     hears(machine, Answer::Granted, at);
 }
 
+/// The part begins, if that is the next line.
+fn begins(machine: &mut HealMachine, at: u32) {
+    let mut request = Request::Index;
+    if let Coming::Begin = machine.asks(&mut request) {
+        machine.begun(at);
+    }
+}
+
 /// The locks were granted, the part has begun, and brick 2 missed a change.
 pub(crate) fn sees_behind(machine: &mut HealMachine, what: What, kind: Kind) {
     hears_granted(machine, 1);
     hears_granted(machine, 4);
-    if machine.is_beginning() {
-        machine.begun(7);
-    }
+    begins(machine, 7);
     hears(machine, seen(what, kind, true), 8);
     hears(machine, seen(what, kind, true), 9);
     hears(machine, seen(what, kind, false), 10);
@@ -76,16 +84,25 @@ pub(crate) fn sees_behind(machine: &mut HealMachine, what: What, kind: Kind) {
 pub(crate) fn asks(machine: &HealMachine, brick: u8) -> Option<Request> {
     let mut request = Request::Index;
     match machine.asks(&mut request) {
-        Some(b) => { if b.0 == brick { Some(request) } else { None } }
-        None => None,
+        Coming::Ask(b) => { if b.0 == brick { Some(request) } else { None } }
+        Coming::Begin | Coming::End => None,
+    }
+}
+
+/// The next line gives a lock of this domain back at the brick.
+pub(crate) fn unlocks(machine: &HealMachine, domain: Domain, brick: u8) -> bool {
+    match asks(machine, brick) {
+        Some(Request::Unlock { domain: other, .. }) => other == domain,
+        _ => false,
     }
 }
 
 /// The reply of the heal, if its next line is its end.
 pub(crate) fn reply_of(machine: &HealMachine) -> Option<HealReply> {
-    match machine.next() {
-        Ok(Next::HealEnd(_, _, reply)) => Some(reply),
-        _ => None,
+    let mut request = Request::Index;
+    match machine.asks(&mut request) {
+        Coming::End => machine.end().ok(),
+        Coming::Ask(_) | Coming::Begin => None,
     }
 }
 

@@ -1,13 +1,21 @@
 //! The lines of the tests: what a round writes next, and the answers that it hears.
+ghost use Rattle.std.specs.Prelude.{◌≡◌, true};
+ghost use Rattle.afr_base.specs.declared.ids.BrickId.{BrickId};
+ghost use Rattle.afr_heal_round.specs.Rounding.{CanHear, next_of};
+ghost use Rattle.afr_lines.specs.declared.line.Next.{Next};
+
+use crate::answers::can_hear;
 use afr_base::{AllMarks, BrickId, Gfid, Kind, NoMemory, Shape, What};
-use afr_heal_round::RoundMachine;
-use afr_lines::{Answer, Good, HealReply, Next, Reply, Request};
+use afr_heal_round::{RoundComing, RoundMachine};
+use afr_lines::{Answer, Good, HealReply, Reply, Request};
 use afr_object::{IndexList, List, View};
 use afr_rule::SourceRule;
 use afr_rule::shipped::longest;
 use std::alloc::Global;
 
 pub(crate) const OBJECT: Gfid = Gfid(9);
+
+pub(crate) const DIRECTORY: Gfid = Gfid(1);
 
 const THREE: Shape = Shape {
     n: 3,
@@ -36,11 +44,29 @@ fn index(alloc: Global) -> Result<IndexList, NoMemory> {
     Ok(list)
 }
 
+/// An index that shows a directory before it.
+fn index_of_two(alloc: Global) -> Result<IndexList, NoMemory> {
+    let mut list = List::new(alloc);
+    list.push((DIRECTORY, What::Dir))?;
+    list.push((OBJECT, What::File))?;
+    Ok(list)
+}
+
+/// Whether the round may hear this answer to this request, which is its next line: only a heal minds what its bricks answer.
+fn can_hear_next(machine: &RoundMachine, request: &Request, answer: &Answer) -> bool
+    ensures { result ≡ true → (b : BrickId) → next_of machine.now ≡ Next.Ask b request.now → CanHear machine.now answer.now }
+{
+    match machine.heal() {
+        Some(_) => can_hear(request, answer),
+        None => true,
+    }
+}
+
 pub(crate) fn hears(machine: &mut RoundMachine, mut answer: Answer, at: u32) {
     let rule = SourceRule::new(longest);
     let mut request = Request::Index;
-    if let Some(brick) = machine.asks(&mut request) {
-        if machine.can_hear(&answer) {
+    if let RoundComing::Ask(brick) = machine.asks(&mut request) {
+        if can_hear_next(machine, &request, &answer) {
             machine.hear(brick, &request, &mut answer, at, &rule);
         }
     }
@@ -52,7 +78,13 @@ pub(crate) fn hears_index(machine: &mut RoundMachine, alloc: Global) {
     }
 }
 
-/// The file as a brick shows it that saw no brick miss a change.
+pub(crate) fn hears_index_of_two(machine: &mut RoundMachine, alloc: Global) {
+    if let Ok(list) = index_of_two(alloc) {
+        hears(machine, Answer::Index(list), 0);
+    }
+}
+
+/// The object as a brick shows it that saw no brick miss a change.
 fn clean() -> Answer {
     Answer::Seen(View {
         what: What::File,
@@ -63,8 +95,8 @@ fn clean() -> Answer {
 
 /// The part of a heal begins, if that is the next line.
 fn begins(machine: &mut RoundMachine, at: u32) {
-    let next = machine.next();
-    if let Ok(Next::HealBegin(..)) = &next {
+    let mut request = Request::Index;
+    if let RoundComing::Begin(_) = machine.asks(&mut request) {
         machine.begun(at);
     }
 }
@@ -84,11 +116,12 @@ pub(crate) fn finds_nothing(machine: &mut RoundMachine, from: u8) {
     }
 }
 
-/// The heal of this kind ends where it found nothing to heal, if that is the next line.
-pub(crate) fn ends_with_nothing(machine: &mut RoundMachine, kind: Kind) -> bool {
-    let next = machine.next();
-    if let Ok(Next::HealEnd(object, of, HealReply::Nothing)) = &next {
-        let holds = *object == OBJECT && *of == kind;
+/// The heal of this object and kind ends where it found nothing to heal, if that is the next line.
+pub(crate) fn ends_with_nothing(machine: &mut RoundMachine, object: Gfid, kind: Kind) -> bool {
+    let mut request = Request::Index;
+    if let RoundComing::HealEnd(heal) = machine.asks(&mut request) {
+        let found = matches!(heal.end(), Ok(HealReply::Nothing));
+        let holds = found && heal.gfid() == object && heal.kind() == kind;
         machine.healed();
         return holds;
     }
@@ -98,8 +131,8 @@ pub(crate) fn ends_with_nothing(machine: &mut RoundMachine, kind: Kind) -> bool 
 pub(crate) fn asks_for_the_index(machine: &RoundMachine) -> bool {
     let mut request = Request::ReadAttrs { gfid: OBJECT };
     match machine.asks(&mut request) {
-        Some(brick) => brick == BrickId(1) && matches!(request, Request::Index),
-        None => false,
+        RoundComing::Ask(brick) => brick == BrickId(1) && matches!(request, Request::Index),
+        _ => false,
     }
 }
 
@@ -107,11 +140,16 @@ pub(crate) fn asks_for_the_index(machine: &RoundMachine) -> bool {
 pub(crate) fn asks_for_a_lock(machine: &RoundMachine) -> bool {
     let mut request = Request::Index;
     match machine.asks(&mut request) {
-        Some(brick) => brick == BrickId(0) && matches!(request, Request::Lock { .. }),
-        None => false,
+        RoundComing::Ask(brick) => brick == BrickId(0) && matches!(request, Request::Lock { .. }),
+        _ => false,
     }
 }
 
+/// The round asks nobody and ends, and its index was given.
 pub(crate) fn ends_well(machine: &RoundMachine) -> bool {
-    matches!(machine.next(), Ok(Next::End(Reply::Ok(Good::Done))))
+    let mut request = Request::Index;
+    match machine.asks(&mut request) {
+        RoundComing::End => matches!(machine.end(), Reply::Ok(Good::Done)),
+        _ => false,
+    }
 }

@@ -1,23 +1,41 @@
+use Rattle.std.proofs.Common.{◌∙◌, ap, sym}
 use Rattle.std.proofs.lemmas.Result.{on_ok_weaker}
 use Rattle.afr_heal_round.specs.Rounding.{IsFed}
 use Rattle.afr_lines.specs.declared.line.Next.TheVariants as next
-use Rattle.afr_healer.proofs.StepLemmas.{stepped, stepped_unheard}
+use Rattle.afr_healer.proofs.StepLemmas.{heal_begin_is, heal_end_is, stepped}
 use Rattle.afr_healer.proofs.step.step_round.Goals as goal
 
-pub returns-in-Some-asks-clause-ok : goal.returns-in-Some-asks-clause-ok
-returns-in-Some-asks-clause-ok g c =
-    on_ok_weaker c.asks-in-Some-asks.result
-    (λ adds. stepped c.args.a c.args.position c.args.healer.now _ c.in-Some.round c.args.servers.now _ c.args.log.now.items _ (IsFed g.F.Fn c.args.rule.now) (next.Ask c.in-Some-asks.brick c.asks.new.request) c.in-Some.is
-    (c.asks.ensures.some c.in-Some-asks.brick c.in-Some-asks.is) (adds c.args.healer.now))
-    c.asks-in-Some-asks.ensures.ok
+pub returns-in-Ask-clause-ok : goal.returns-in-Ask-clause-ok
+returns-in-Ask-clause-ok g c =
+    on_ok_weaker c.asks-in-Ask.result
+    (λ adds. stepped c.args.a c.args.position c.args.healer.now _ c.in-Some.round c.args.servers.now _ c.args.log.now.items _ (IsFed g.F.Fn c.args.rule.now) (next.Ask c.in-Ask.brick c.asks.new.request) c.in-Some.is c.in-Ask.ensures (adds c.args.healer.now))
+    c.asks-in-Ask.ensures.ok
 
-pub returns-then-branch-clause-ok : goal.returns-then-branch-clause-ok
-returns-then-branch-clause-ok g c =
+pub heal_begins-requires-clause-next : goal.heal_begins-requires-clause-next
+heal_begins-requires-clause-next g c = heal_begin_is _ _ _ _ c.in-Begin.ensures c.gfid-gfid.ensures c.kind-kind.ensures
+
+pub returns-in-Begin-clause-ok : goal.returns-in-Begin-clause-ok
+returns-in-Begin-clause-ok g c =
+    stepped c.args.a c.args.position c.args.healer.now _ c.in-Some.round c.args.servers.now c.args.servers.now c.args.log.now.items _ (IsFed g.F.Fn c.args.rule.now) (next.HealBegin c.gfid-gfid.result c.kind-kind.result) c.in-Some.is
+    (heal_begin_is _ _ _ _ c.in-Begin.ensures c.gfid-gfid.ensures c.kind-kind.ensures)
+    (c.heal_begins.ensures c.args.healer.now c.args.servers.now)
+
+pub heal_ends-requires-clause-next : goal.heal_ends-requires-clause-next
+heal_ends-requires-clause-next g c = heal_end_is _ _ _ _ _ c.in-HealEnd.ensures c.gfid-gfid-in-HealEnd.ensures c.kind-kind-in-HealEnd.ensures c.in_ok-reply-in-HealEnd.ensures
+
+pub returns-in_ok-reply-in-HealEnd-clause-ok : goal.returns-in_ok-reply-in-HealEnd-clause-ok
+returns-in_ok-reply-in-HealEnd-clause-ok g c =
+    stepped c.args.a c.args.position c.args.healer.now _ c.in-Some.round c.args.servers.now c.args.servers.now c.args.log.now.items _ (IsFed g.F.Fn c.args.rule.now)
+    (next.HealEnd c.gfid-gfid-in-HealEnd.result c.kind-kind-in-HealEnd.result c.in_ok-reply-in-HealEnd.reply) c.in-Some.is
+    (heal_end_is _ _ _ _ _ c.in-HealEnd.ensures c.gfid-gfid-in-HealEnd.ensures c.kind-kind-in-HealEnd.ensures c.in_ok-reply-in-HealEnd.ensures)
+    (c.heal_ends.ensures c.args.healer.now c.args.servers.now)
+
+pub returns-in-End-clause-ok : goal.returns-in-End-clause-ok
+returns-in-End-clause-ok g c =
     rw c.closes.ensures
-    (stepped_unheard c.args.a c.args.position c.args.healer.now _ c.in-Some.round c.args.servers.now c.args.servers.now c.args.log.now.items _ (IsFed g.F.Fn c.args.rule.now) c.in-Some.is
-    (rw c.if-branch.true at (c.in_ok-writes-in-None-asks.ensures.ok c.args.healer.now c.args.servers.now)))
+    (stepped c.args.a c.args.position c.args.healer.now _ c.in-Some.round c.args.servers.now c.args.servers.now c.args.log.now.items _ (IsFed g.F.Fn c.args.rule.now) (next.End c.end-reply.result) c.in-Some.is
+    (c.in-End.ensures.1 ∙ ap next.End (sym (c.end-reply.ensures c.in-End.ensures.0 c.in-End.ensures.1)))
+    (c.ends.ensures c.args.healer.now c.args.servers.now))
 
-pub returns-else-branch-clause-ok : goal.returns-else-branch-clause-ok
-returns-else-branch-clause-ok g c =
-    stepped_unheard c.args.a c.args.position c.args.healer.now _ c.in-Some.round c.args.servers.now c.args.servers.now c.args.log.now.items _ (IsFed g.F.Fn c.args.rule.now) c.in-Some.is
-    (rw c.if-branch.false at (c.in_ok-writes-in-None-asks.ensures.ok c.args.healer.now c.args.servers.now))
+pub returns-in-None-clause-ok : goal.returns-in-None-clause-ok
+returns-in-None-clause-ok g c = absurd (cc (rw c.in-None.is at c.requires.busy))

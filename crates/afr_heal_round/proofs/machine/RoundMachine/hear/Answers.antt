@@ -1,6 +1,9 @@
 use Rattle.std.proofs.Common.{◌∙◌, refl}
-use Rattle.afr_heal_round.proofs.Shapes.{shape_heard}
+use Rattle.afr_heal_round.proofs.Shapes.{line_asks, shape_heard}
 use Rattle.afr_heal_round.proofs.machine.RoundMachine.hear.Goals as goal
+
+pub hear-requires-clause-asked : goal.hear-requires-clause-asked
+hear-requires-clause-asked g c = line_asks c.in-Healing.heal c.args.brick c.args.request.now (rw (← c.self.view_is, c.in-Healing.is) at c.requires.asked)
 
 pub invariant_of-self-in-Healing : goal.invariant_of-self-in-Healing
 invariant_of-self-in-Healing g c = record {
@@ -11,3 +14,6 @@ invariant_of-self-in-Healing g c = record {
 
 pub returns-in-Healing : goal.returns-in-Healing
 returns-in-Healing g c = rw (← c.self.view_is, c.in-Healing.is) (c.hear.new.self, c.hear.ensures, refl)
+
+pub returns-in-Over : goal.returns-in-Over
+returns-in-Over g c = absurd (rw (← c.self.view_is, c.in-Over.is) at c.requires.can)

@@ -1,14 +1,15 @@
 //! Which answers bricks give to the requests of a heal.
-ghost use Rattle.std.specs.Prelude.{◌≡◌, true};
+ghost use Rattle.std.specs.Prelude.{◌≡◌, ℕ, true};
 ghost use Rattle.afr_heal.specs.Answers.{fits};
-ghost use Rattle.afr_heal_machine.specs.Healing.{IsShowable, IsTellable};
+ghost use Rattle.afr_heal.specs.Engine.{Ask};
+ghost use Rattle.afr_heal_machine.specs.Healing.{CanHear, IsShowable, IsTellable};
 
 use afr_base::LONGEST_FILE;
-use afr_lines::{Request, Told};
+use afr_lines::{Answer, Request, Told, told_of};
 use afr_object::View;
 
 /// Whether bricks give this answer to this request of a heal.
-pub(crate) fn fits(request: &Request, told: &Told) -> bool
+fn fits(request: &Request, told: &Told) -> bool
     ensures { result ≡ fits request.now told.now }
 {
     match told {
@@ -39,11 +40,19 @@ fn is_showable(view: &View) -> bool
 }
 
 /// Whether a view in the answer has no length beyond that of the longest file, and leaves room for one more change.
-pub(crate) fn is_tellable(told: &Told) -> bool
+fn is_tellable(told: &Told) -> bool
     ensures { result ≡ true → IsTellable told.now }
 {
     match told {
         Told::Seen(view) => is_showable(view),
         _ => true,
     }
+}
+
+/// Whether the tests may give this answer to this request of a heal: only such answers may a heal hear.
+pub(crate) fn can_hear(request: &Request, answer: &Answer) -> bool
+    ensures { result ≡ true → (b : ℕ) → CanHear (Ask b request.now) answer.now }
+{
+    let told = told_of(answer);
+    fits(request, &told) && is_tellable(&told)
 }
