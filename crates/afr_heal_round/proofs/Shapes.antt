@@ -1,6 +1,8 @@
 -- A heal's lines keep the shape of its register, and its round says them.
 use Rattle.std.proofs.Common.{◌≡◌, ◌∙◌, ℕ, Bool, true, refl, ap, is_some, sym}
 use Rattle.afr_base.specs.declared.ids.BrickId.{BrickId}
+use Rattle.afr_base.specs.declared.ids.Gfid.{Gfid}
+use Rattle.afr_base.specs.declared.ids.Kind.{Kind}
 use Rattle.afr_base.specs.declared.ids.Shape.{Shape}
 use Rattle.afr_discipline.specs.Laws.{ShapesKept}
 use Rattle.afr_discipline.specs.declared.register.Move.TheVariants as move
@@ -12,11 +14,13 @@ use Rattle.afr_heal_round.specs.declared.stage.RoundStage.{RoundStage}
 use Rattle.afr_heal_round.specs.declared.stage.RoundStage.TheVariants as stage_of
 use Rattle.afr_lines.specs.Told.{told_by}
 use Rattle.afr_lines.specs.declared.line.Next.TheVariants as next
+use Rattle.afr_lines.specs.declared.reply.HealReply.{HealReply}
 use Rattle.afr_lines.specs.declared.reply.Reply.{Reply}
 use Rattle.afr_lines.specs.declared.request.Request.{Request}
 use Rattle.afr_lines.specs.declared.answer.Answer.{Answer}
 use Rattle.afr_lines.specs.declared.answer.Told.TheVariants.{Done}
 use Rattle.afr_rule.specs.Choosing.{Calls}
+use Rattle.afr_heal_machine.specs.Outcome as outcome
 use Rattle.afr_heal_machine.specs.Healing.{Healing, IsFed, begun, coming, line_of, next_of}
 
 pub shape_heard : ShapesKept → {F : Type 0} (calls : Calls F) (choose : F) (answer : Answer) (at : ℕ) (old new : Healing) → IsFed calls choose answer at old new → new.register.shape ≡ old.register.shape
@@ -52,6 +56,15 @@ pub ends_heal : (b : BrickId) (stage : RoundStage) → is_ending (next_at b stag
 ends_heal b (stage_of.Asking heals) k = absurd (cc k)
 ends_heal b (stage_of.Healing m) k = refl
 ends_heal b (stage_of.Over refused) k = absurd (cc k)
+
+-- the reply of that line is the heal's
+pub ends_so : (m : Healing) (g : Gfid) (kind : Kind) (said : HealReply) → next_of m ≡ next.HealEnd g kind said → outcome.reply_of m.outcome m.register.seen ≡ said
+ends_so m g kind said e = by (coming m) e
+  where
+    by : (n : NextOfHeal) → line_of m n ≡ next.HealEnd g kind said → outcome.reply_of m.outcome m.register.seen ≡ said
+    by (Ask b request) e = absurd (cc e)
+    by Begins e = absurd (cc e)
+    by Ends e = cc e
 
 -- a heal doesn't end its round
 never_ends : (m : Healing) (said : Reply) (n : NextOfHeal) → line_of m n ≡ next.End said → ⊥

@@ -16,6 +16,7 @@ use Rattle.afr_lines.specs.declared.answer.Answer.TheVariants as answer
 use Rattle.afr_lines.specs.declared.line.Next.{Next}
 use Rattle.afr_lines.specs.declared.line.Next.TheVariants as next
 use Rattle.afr_lines.specs.declared.reply.Good.TheVariants.{Done}
+use Rattle.afr_lines.specs.declared.reply.HealReply.{HealReply}
 use Rattle.afr_lines.specs.declared.reply.Reply.{Reply}
 use Rattle.afr_lines.specs.declared.reply.Reply.TheVariants.{Failed, Ok}
 use Rattle.afr_lines.specs.declared.request.Request.{Request}
@@ -26,7 +27,6 @@ use Rattle.afr_rule.specs.Choosing.{Calls}
 use Rattle.afr_heal_machine.specs.Contents.{load_in}
 use Rattle.afr_heal_machine.specs.Healing as heal
 use Rattle.afr_heal_machine.specs.Healing.{Healing as Heal, IsHealing, coming, heal_from}
-use Rattle.afr_heal_machine.specs.Outcome as outcome
 
 -- a round: its list and how far it is in it, and where it stands
 pub record Rounding : Type 0 where
@@ -54,8 +54,8 @@ next_of m = next_at m.round.brick m.stage
 -- the line is the one that the round says, where the request that stands beside is this
 abbrev pub Comes : RoundComing → Request → Next → Type 0
 Comes (coming_of.Ask b) request line = line ≡ next.Ask b request
-Comes (coming_of.Begin m) request line = line ≡ next.HealBegin m.now.gfid m.now.kind
-Comes (coming_of.HealEnd m) request line = line ≡ next.HealEnd m.now.gfid m.now.kind (outcome.reply_of m.now.outcome m.now.register.seen)
+Comes (coming_of.Begin g kind) request line = line ≡ next.HealBegin g kind
+Comes (coming_of.HealEnd g kind) request line = (said : HealReply) × (line ≡ next.HealEnd g kind said)
 Comes coming_of.End request line = (said : Reply) × (line ≡ next.End said)
 
 -- the same of a heal's next line

@@ -1,13 +1,12 @@
 //! The next line of a round.
-use afr_base::BrickId;
-use afr_heal_machine::HealMachine;
+use afr_base::{BrickId, Gfid, Kind};
 
-/// What a round does next: it asks a brick, begins a part of its heal, ends the heal, or ends. Its request stands where its
-/// asker wants it.
+/// What a round does next: it asks a brick, begins a part of a heal, ends a heal, or ends. Its request stands where its asker
+/// wants it.
 #[derive(Clone, Copy)]
-pub enum RoundComing<'a> {
+pub enum RoundComing {
     Ask(BrickId),
-    Begin(&'a HealMachine),
-    HealEnd(&'a HealMachine),
+    Begin(Gfid, Kind),
+    HealEnd(Gfid, Kind),
     End,
 }

@@ -1,6 +1,9 @@
 //! A round: what it asks next, and what it makes of the answers.
 ghost use Rattle.std.specs.Prelude.{◌≡◌, ◌<◌, ◌≤◌, true, IfOk, OnOk, OnErr, Some, is_some, option_map};
+ghost use Rattle.afr_base.specs.declared.ids.Gfid.{Gfid};
+ghost use Rattle.afr_base.specs.declared.ids.Kind.{Kind};
 ghost use Rattle.afr_lines.specs.declared.line.Next.{Next};
+ghost use Rattle.afr_lines.specs.declared.reply.HealReply.{HealReply};
 ghost use Rattle.afr_rule.specs.Choosing.{IsRule};
 ghost use Rattle.afr_heal_round.specs.List.Round.{next_due, without_next};
 ghost use Rattle.afr_heal_round.specs.Rounding.{CanHear, CarriesNext, Comes, HealComes, IsFed, IsStaged, begun, heal_at, healed, indexed, is_beginning, is_ending, made_ready, next_of, reply_of, round_from, round_given, round_indexed, stage_due, stage_given, stage_indexed, task_from};
@@ -12,7 +15,7 @@ use afr_base::{BrickId, Gfid, Kind, NoMemory, Shape, What};
 use afr_discipline::each_note_stands;
 use afr_heal::Coming;
 use afr_heal_machine::HealMachine;
-use afr_lines::{Answer, Good, Reply, Request};
+use afr_lines::{Answer, Good, HealReply, Reply, Request};
 use afr_object::{List, Load};
 use afr_rule::{Candidate, SourceRule};
 use std::alloc::Global;
@@ -89,7 +92,7 @@ impl RoundMachine {
     }
 
     /// What the next line is; a request is written where it is to stand.
-    pub fn asks(&self, request: &mut Request) -> RoundComing<'_>
+    pub fn asks(&self, request: &mut Request) -> RoundComing
         ensures { Comes result request.new (next_of self.now) }
     {
         match &self.stage {
@@ -99,6 +102,16 @@ impl RoundMachine {
             }
             RoundStage::Healing(heal) => heal_asks(heal, request),
             RoundStage::Over { .. } => RoundComing::End,
+        }
+    }
+
+    /// The reply of the heal's end. Only the views of a split take memory.
+    pub fn heal_end(&self) -> Result<HealReply, NoMemory>
+        ensures { IfOk result (λ reply. (g : Gfid) (kind : Kind) (said : HealReply) → next_of self.now ≡ Next.HealEnd g kind said → reply ≡ said) }
+    {
+        match &self.stage {
+            RoundStage::Healing(heal) => heal.end(),
+            _ => Ok(HealReply::Failed),
         }
     }
 
@@ -193,13 +206,13 @@ impl RoundMachine {
 }
 
 /// The next line of a heal, as its round says it.
-fn heal_asks<'a>(heal: &'a HealMachine, request: &mut Request) -> RoundComing<'a>
+fn heal_asks(heal: &HealMachine, request: &mut Request) -> RoundComing
     ensures { HealComes result request.new heal.now }
 {
     match heal.asks(request) {
         Coming::Ask(brick) => RoundComing::Ask(brick),
-        Coming::Begin => RoundComing::Begin(heal),
-        Coming::End => RoundComing::HealEnd(heal),
+        Coming::Begin => RoundComing::Begin(heal.gfid(), heal.kind()),
+        Coming::End => RoundComing::HealEnd(heal.gfid(), heal.kind()),
     }
 }
 

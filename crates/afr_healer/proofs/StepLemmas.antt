@@ -1,26 +1,12 @@
 -- A line of a healer, put together from its parts.
-use Rattle.std.proofs.Common.{◌≡◌, ◌∙◌, ℕ, List, Some, sym, subst}
+use Rattle.std.proofs.Common.{◌≡◌, ℕ, List, Some, sym, subst}
 use Rattle.afr_base.specs.declared.ids.ActorId.{ActorId}
-use Rattle.afr_base.specs.declared.ids.Gfid.{Gfid}
-use Rattle.afr_base.specs.declared.ids.Kind.{Kind}
-use Rattle.afr_heal_machine.specs.Healing.{Healing as Heal}
-use Rattle.afr_heal_machine.specs.Outcome.{reply_of}
 use Rattle.afr_heal_round.specs.Rounding.{Rounding, next_of}
 use Rattle.afr_lines.specs.declared.line.Line.{Line}
 use Rattle.afr_lines.specs.declared.line.Next.{Next}
-use Rattle.afr_lines.specs.declared.line.Next.TheVariants as next
-use Rattle.afr_lines.specs.declared.reply.HealReply.{HealReply}
 use Rattle.afr_healer.specs.Acting.{Adds, Hearing, Stepped, SteppedBy}
 use Rattle.afr_healer.specs.declared.healer.Healer.{Healer}
 use Rattle.afr_server.specs.Serving.{Serving}
-
--- the end of a heal, with the object, the kind and the reply that its machine gives
-pub heal_end_is : (line : Next) (h : Heal) (g : Gfid) (kind : Kind) (said : HealReply) → line ≡ next.HealEnd h.gfid h.kind (reply_of h.outcome h.register.seen) → g ≡ h.gfid → kind ≡ h.kind → said ≡ reply_of h.outcome h.register.seen → line ≡ next.HealEnd g kind said
-heal_end_is line h g kind said is one two three = is ∙ (λ i. next.HealEnd (sym one i) (sym two i) (sym three i))
-
--- the beginning of a part, with the object and the kind that its machine gives
-pub heal_begin_is : (line : Next) (h : Heal) (g : Gfid) (kind : Kind) → line ≡ next.HealBegin h.gfid h.kind → g ≡ h.gfid → kind ≡ h.kind → line ≡ next.HealBegin g kind
-heal_begin_is line h g kind is one two = is ∙ (λ i. next.HealBegin (sym one i) (sym two i))
 
 module _ (a : ActorId) (at : ℕ) (x y : Healer) (m : Rounding) (old new : List Serving) (before after : List Line) where
   -- the line of the present round is one line of the healer

@@ -105,16 +105,12 @@ pub fn step_round<F: Fn(&[Candidate]) -> usize>(
                     rule,
                 )
             }
-            RoundComing::Begin(heal) => {
-                let gfid = heal.gfid();
-                let kind = heal.kind();
+            RoundComing::Begin(gfid, kind) => {
                 heal_begins(round, a, gfid, kind, position, log);
                 Ok(())
             }
-            RoundComing::HealEnd(heal) => {
-                let gfid = heal.gfid();
-                let kind = heal.kind();
-                let reply = heal.end()?;
+            RoundComing::HealEnd(gfid, kind) => {
+                let reply = round.heal_end()?;
                 heal_ends(round, &mut healer.visit, a, gfid, kind, reply, log);
                 Ok(())
             }

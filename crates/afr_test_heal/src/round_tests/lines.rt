@@ -96,7 +96,7 @@ fn clean() -> Answer {
 /// The part of a heal begins, if that is the next line.
 fn begins(machine: &mut RoundMachine, at: u32) {
     let mut request = Request::Index;
-    if let RoundComing::Begin(_) = machine.asks(&mut request) {
+    if let RoundComing::Begin(..) = machine.asks(&mut request) {
         machine.begun(at);
     }
 }
@@ -119,11 +119,10 @@ pub(crate) fn finds_nothing(machine: &mut RoundMachine, from: u8) {
 /// The heal of this object and kind ends where it found nothing to heal, if that is the next line.
 pub(crate) fn ends_with_nothing(machine: &mut RoundMachine, object: Gfid, kind: Kind) -> bool {
     let mut request = Request::Index;
-    if let RoundComing::HealEnd(heal) = machine.asks(&mut request) {
-        let found = matches!(heal.end(), Ok(HealReply::Nothing));
-        let holds = found && heal.gfid() == object && heal.kind() == kind;
+    if let RoundComing::HealEnd(healed, of) = machine.asks(&mut request) {
+        let found = matches!(machine.heal_end(), Ok(HealReply::Nothing));
         machine.healed();
-        return holds;
+        return found && healed == object && of == kind;
     }
     false
 }

@@ -2,7 +2,7 @@ use Rattle.std.proofs.Common.{◌∙◌, ap, sym}
 use Rattle.std.proofs.lemmas.Result.{on_ok_weaker}
 use Rattle.afr_heal_round.specs.Rounding.{IsFed}
 use Rattle.afr_lines.specs.declared.line.Next.TheVariants as next
-use Rattle.afr_healer.proofs.StepLemmas.{heal_begin_is, heal_end_is, stepped}
+use Rattle.afr_healer.proofs.StepLemmas.{stepped}
 use Rattle.afr_healer.proofs.step.step_round.Goals as goal
 
 pub returns-in-Ask-clause-ok : goal.returns-in-Ask-clause-ok
@@ -11,23 +11,19 @@ returns-in-Ask-clause-ok g c =
     (λ adds. stepped c.args.a c.args.position c.args.healer.now _ c.in-Some.round c.args.servers.now _ c.args.log.now.items _ (IsFed g.F.Fn c.args.rule.now) (next.Ask c.in-Ask.brick c.asks.new.request) c.in-Some.is c.in-Ask.ensures (adds c.args.healer.now))
     c.asks-in-Ask.ensures.ok
 
-pub heal_begins-requires-clause-next : goal.heal_begins-requires-clause-next
-heal_begins-requires-clause-next g c = heal_begin_is _ _ _ _ c.in-Begin.ensures c.gfid-gfid.ensures c.kind-kind.ensures
-
 pub returns-in-Begin-clause-ok : goal.returns-in-Begin-clause-ok
 returns-in-Begin-clause-ok g c =
-    stepped c.args.a c.args.position c.args.healer.now _ c.in-Some.round c.args.servers.now c.args.servers.now c.args.log.now.items _ (IsFed g.F.Fn c.args.rule.now) (next.HealBegin c.gfid-gfid.result c.kind-kind.result) c.in-Some.is
-    (heal_begin_is _ _ _ _ c.in-Begin.ensures c.gfid-gfid.ensures c.kind-kind.ensures)
+    stepped c.args.a c.args.position c.args.healer.now _ c.in-Some.round c.args.servers.now c.args.servers.now c.args.log.now.items _ (IsFed g.F.Fn c.args.rule.now) (next.HealBegin c.in-Begin.gfid c.in-Begin.kind) c.in-Some.is c.in-Begin.ensures
     (c.heal_begins.ensures c.args.healer.now c.args.servers.now)
 
 pub heal_ends-requires-clause-next : goal.heal_ends-requires-clause-next
-heal_ends-requires-clause-next g c = heal_end_is _ _ _ _ _ c.in-HealEnd.ensures c.gfid-gfid-in-HealEnd.ensures c.kind-kind-in-HealEnd.ensures c.in_ok-reply-in-HealEnd.ensures
+heal_ends-requires-clause-next g c = c.in-HealEnd.ensures.1 ∙ ap (next.HealEnd c.in-HealEnd.gfid c.in-HealEnd.kind) (sym (c.in_ok-reply-in-HealEnd.ensures c.in-HealEnd.gfid c.in-HealEnd.kind c.in-HealEnd.ensures.0 c.in-HealEnd.ensures.1))
 
 pub returns-in_ok-reply-in-HealEnd-clause-ok : goal.returns-in_ok-reply-in-HealEnd-clause-ok
 returns-in_ok-reply-in-HealEnd-clause-ok g c =
     stepped c.args.a c.args.position c.args.healer.now _ c.in-Some.round c.args.servers.now c.args.servers.now c.args.log.now.items _ (IsFed g.F.Fn c.args.rule.now)
-    (next.HealEnd c.gfid-gfid-in-HealEnd.result c.kind-kind-in-HealEnd.result c.in_ok-reply-in-HealEnd.reply) c.in-Some.is
-    (heal_end_is _ _ _ _ _ c.in-HealEnd.ensures c.gfid-gfid-in-HealEnd.ensures c.kind-kind-in-HealEnd.ensures c.in_ok-reply-in-HealEnd.ensures)
+    (next.HealEnd c.in-HealEnd.gfid c.in-HealEnd.kind c.in_ok-reply-in-HealEnd.reply) c.in-Some.is
+    (c.in-HealEnd.ensures.1 ∙ ap (next.HealEnd c.in-HealEnd.gfid c.in-HealEnd.kind) (sym (c.in_ok-reply-in-HealEnd.ensures c.in-HealEnd.gfid c.in-HealEnd.kind c.in-HealEnd.ensures.0 c.in-HealEnd.ensures.1)))
     (c.heal_ends.ensures c.args.healer.now c.args.servers.now)
 
 pub returns-in-End-clause-ok : goal.returns-in-End-clause-ok

@@ -16,8 +16,8 @@ same_round one two is = cc is
 -- a round that says no request asks nobody
 asks_nobody : (said : RoundComing) (request : Request) (line : Next) → ((b : BrickId) → said ≡ coming_of.Ask b → ⊥) → Comes said request line → (b : BrickId) (asked : Request) → line ≡ next.Ask b asked → ⊥
 asks_nobody (coming_of.Ask x) request line never k b asked e = never x refl
-asks_nobody (coming_of.Begin m) request line never k b asked e = absurd (cc (k, e))
-asks_nobody (coming_of.HealEnd m) request line never k b asked e = absurd (cc (k, e))
+asks_nobody (coming_of.Begin g kind) request line never k b asked e = absurd (cc (k, e))
+asks_nobody (coming_of.HealEnd g kind) request line never k b asked e = let ends = k.1 in absurd (cc (ends, e))
 asks_nobody coming_of.End request line never k b asked e = let ends = k.1 in absurd (cc (ends, e))
 
 pub returns-in-Ask-clause-some : goal.returns-in-Ask-clause-some
