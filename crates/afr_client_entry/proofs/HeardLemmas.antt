@@ -7,7 +7,6 @@ use Rattle.afr_lines.specs.declared.answer.Answer.{Answer}
 use Rattle.afr_lines.specs.declared.answer.Told.{Told}
 use Rattle.afr_lines.specs.declared.line.Next.TheVariants as next
 use Rattle.afr_lines.specs.declared.request.Request.{Request}
-use Rattle.afr_lines.specs.declared.line.Heard.TheVariants as heard
 use Rattle.afr_lines.specs.Areas.{kind_for}
 use Rattle.afr_client_walk.specs.declared.walk.Walk.{Walk}
 use Rattle.afr_client_transaction.specs.Between.{is_read, noted_read}
@@ -18,7 +17,7 @@ use Rattle.afr_client_transaction.specs.declared.stage.Stage.TheVariants.{Lockin
 use Rattle.afr_client_transaction.proofs.NoteLemmas.{fed_change}
 use Rattle.afr_client_entry.specs.Removals.Removal as removal
 use Rattle.afr_client_entry.specs.Removals.Removal.{Removing}
-use Rattle.afr_client_entry.specs.Entry.{IsChanging, choices_removing, choices_under, found_after, found_by, is_over, name_noted, next_at, next_under, offered, progress_after, reads_name, removal_after, settled}
+use Rattle.afr_client_entry.specs.Entry.{IsChanging, choices_removing, choices_under, found_after, found_by, name_noted, next_under, offered, progress_after, reads_name, removal_after, settled}
 use Rattle.afr_client_entry.specs.Job.{reply_to, ruled_out}
 use Rattle.afr_client_entry.specs.declared.job.EntryJob.{EntryJob}
 use Rattle.afr_client_entry.specs.declared.refusal.Refusal.{Refusal}

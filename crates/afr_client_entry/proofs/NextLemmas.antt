@@ -12,12 +12,11 @@ use Rattle.afr_client_transaction.specs.Outcome.{outcome_of}
 use Rattle.afr_client_transaction.specs.Progress as progress
 use Rattle.afr_client_transaction.specs.Progress.{TransactionProgress, is_beginning}
 use Rattle.afr_client_transaction.specs.declared.stage.Stage.{Stage}
-use Rattle.afr_client_transaction.specs.declared.stage.Stage.TheVariants.{Beginning, Closing, Locking}
+use Rattle.afr_client_transaction.specs.declared.stage.Stage.TheVariants.{Closing, Locking}
 use Rattle.afr_client_transaction.proofs.Kept.{asks_or_begins, more_left as transaction_more, over_at}
 use Rattle.afr_client_transaction.proofs.ReadLemmas.{begins_at}
 use Rattle.afr_client_entry.specs.Removals.Removal as removal
 use Rattle.afr_client_entry.specs.Removals.Removal.{Removing}
-use Rattle.afr_client_entry.specs.declared.removing.stage.RemovalEnding.{RemovalEnding}
 use Rattle.afr_client_entry.specs.declared.removing.stage.RemovalStage.{RemovalStage}
 use Rattle.afr_client_entry.specs.declared.removing.stage.RemovalStage.TheVariants as removing
 use Rattle.afr_client_entry.specs.Entry as entry
@@ -127,9 +126,6 @@ removal_over (removing.Closing why) m away none = go (is_nothing (removal.left (
     go true none = refl
     go false none = absurd (cc none)
 removal_over stage m away none = absurd (cc none)
-
-pub removal_ends : (why : RemovalEnding) (m : Removing) → is_nothing (removal.left (removing.Closing why) m) ≡ true → removal.next_at (removing.Closing why) m ≡ next.End (removal.reply_of why m.register)
-removal_ends why m over = rw over refl
 
 -- ---- a command on a name
 -- where the next line is a request or a Begin line, more is left than the end

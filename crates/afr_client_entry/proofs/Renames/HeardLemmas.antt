@@ -31,7 +31,7 @@ use Rattle.afr_client_entry.specs.declared.stage.Found.TheVariants.{Unread, Fits
 use Rattle.afr_client_entry.proofs.HeardLemmas.{is_unread}
 use Rattle.afr_client_entry.specs.Renames.Against.{against_new, against_old}
 use Rattle.afr_client_entry.specs.Renames.Paths.{IsPaths, found_in, reads_new, reads_old}
-use Rattle.afr_client_entry.specs.Renames.Rename.{IsRename, after_first, after_second, choices_at, is_done, is_over, making_after, making_next, next_at, paths_after, second_begun, stage_after, turned, turned_anew}
+use Rattle.afr_client_entry.specs.Renames.Rename.{IsRename, after_first, after_second, choices_at, is_done, is_over, making_after, making_next, paths_after, second_begun, stage_after, turned, turned_anew}
 use Rattle.afr_client_entry.specs.Renames.Under.{IsUnder, choices_under, found_after, next_under, progress_after}
 use Rattle.afr_client_entry.specs.declared.renaming.paths.Paths.{Paths}
 use Rattle.afr_client_entry.proofs.Renames.RenameLemmas.{first_paths, is_after_first, is_after_second, is_turned, kept_answer, second_paths}

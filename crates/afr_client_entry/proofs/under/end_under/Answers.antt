@@ -1,4 +1,4 @@
-use Rattle.std.proofs.Common.{◌≡◌, ℕ, sym, subst}
+use Rattle.std.proofs.Common.{◌≡◌, sym, subst}
 use Rattle.afr_lines.specs.declared.line.Next.TheVariants as next
 use Rattle.afr_client_entry.specs.Renames.Under.{next_under}
 use Rattle.afr_client_entry.specs.declared.stage.Found.{Found}
