@@ -31,10 +31,8 @@ use Rattle.afr_client_walk.specs.declared.walk.WalkStep.TheVariants as walking
 use Rattle.afr_client_walk.specs.Choosing.{reader_of}
 use Rattle.afr_client_walk.proofs.ChoosingLemmas.{answers_among}
 use Rattle.afr_discipline.proofs.FreeLemmas.{allows_end, shape_is}
-use Rattle.afr_client_transaction.specs.Progress.{asks}
 use Rattle.afr_client_transaction.proofs.Kept.{asks_or_begins}
 use Rattle.afr_client_transaction.proofs.Parts.{both}
-use Rattle.afr_client_entry.specs.Removals.Removal.{Removing}
 use Rattle.afr_client_entry.specs.Entry as entry
 use Rattle.afr_client_entry.specs.Entry.{IsEntry}
 use Rattle.afr_client_entry.specs.declared.job.EntryJob.{EntryJob}
