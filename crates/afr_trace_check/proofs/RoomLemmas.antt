@@ -33,9 +33,9 @@ use Rattle.afr_trace_follow.specs.Marked.{list_of}
 use Rattle.afr_trace_follow.specs.Planned.{CarriesOut, FollowsPlan, IsOfTask, IsPlanned, OfCommand, OfRound}
 use Rattle.afr_trace_follow.specs.Renaming.{change_due, link_to, unlink_from}
 use Rattle.afr_trace_follow.specs.Turns.{KeepsToList}
-use Rattle.afr_trace_limits.specs.Limits.{has_long, is_long, is_past_limit}
 use Rattle.afr_trace_check.proofs.PieceLemmas.{LineFits, PieceFits}
 use Rattle.afr_trace_tables.specs.Plain.{plain_tables}
+use Rattle.afr_trace_tally.specs.Limits.{has_long, is_long, is_past_limit}
 use Rattle.afr_trace_tally.specs.Room.{CanAsk, HasRoom}
 use Rattle.afr_trace_tally.proofs.TableLemmas.{bytes_past}
 

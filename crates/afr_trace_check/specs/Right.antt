@@ -12,8 +12,8 @@ use Rattle.afr_trace_check.specs.declared.finding.Finding.TheVariants as finding
 use Rattle.afr_trace_check.specs.declared.finding.Rule.{Rule}
 use Rattle.afr_trace_check.specs.declared.finding.Rule.TheVariants as rule
 use Rattle.afr_trace_follow.specs.Planned.{FollowsPlan}
-use Rattle.afr_trace_limits.specs.Limits.{is_past_limit}
 use Rattle.afr_trace_read.specs.Trace.{line_feeds}
+use Rattle.afr_trace_tally.specs.Limits.{is_past_limit}
 
 -- the check of a trace is past its limit: the trace has too many lines, or its plan files that are too long
 abbrev pub IsPastLimit : Plan → List ℕ → Type 0

@@ -7,10 +7,10 @@ ghost use Rattle.afr_trace_check.specs.Right.{IsFound, IsFoundIn, IsPastLimit, I
 ghost use Rattle.afr_trace_check.specs.Taken.{BreaksOne, IsOutcome, IsOutcomeOf, IsTaken, KeepsRules, log_of};
 ghost use Rattle.afr_trace_follow.specs.Following.{HasFewActors};
 ghost use Rattle.afr_trace_follow.specs.Lists.{AreLists};
-ghost use Rattle.afr_trace_limits.specs.Limits.{is_past_limit};
 ghost use Rattle.afr_trace_read.specs.Seen.{seen_line};
 ghost use Rattle.afr_trace_read.specs.Trace.{line_feeds};
 ghost use Rattle.afr_trace_safe.specs.Touched.{touched};
+ghost use Rattle.afr_trace_tally.specs.Limits.{is_past_limit};
 ghost use Rattle.afr_trace_tally.specs.Room.{HasRoom};
 ghost use Rattle.afr_trace_tally.specs.Tally.{AsksKnown, IsTally};
 
@@ -23,10 +23,9 @@ use afr_lines::Line;
 use afr_plan::Plan;
 use afr_trace_build::Filled;
 use afr_trace_follow::{Lists, is_following};
-use afr_trace_limits::is_past_limit;
 use afr_trace_read::{SpelledLine, TraceStop, read_trace};
 use afr_trace_safe::{is_safe, touched};
-use afr_trace_tally::{Tally, TallyStop};
+use afr_trace_tally::{Tally, TallyStop, is_past_limit};
 use std::alloc::Global;
 
 /// The most lines that a trace may have.

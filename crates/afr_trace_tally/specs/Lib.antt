@@ -7,3 +7,4 @@ pub mod Counts
 pub mod Room
 pub mod Bricks
 pub mod Tally
+pub mod Limits

@@ -196,7 +196,7 @@ fn higher(entry: Entry, other: Option<Entry>) -> Entry
 fn outranks(one: Entry, other: Entry) -> bool
     ensures { result ≡ outranks one other }
 {
-    one.gfid.0 > other.gfid.0 || (one.gfid == other.gfid && one.what == What::Dir)
+    other.gfid.0 < one.gfid.0 || (one.gfid.0 == other.gfid.0 && matches!(one.what, What::Dir))
 }
 
 fn merge_at(

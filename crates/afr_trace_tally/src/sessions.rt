@@ -13,7 +13,7 @@ use afr_base::{ActorId, BrickId};
 use afr_lines::{Domain, Event, Line, Request, Told};
 
 /// Where an actor stands in its works.
-#[derive(Clone, Copy, Debug)]
+#[derive(Clone, Copy)]
 pub enum Place {
     /// Its next line is the first of a work.
     Fresh,
