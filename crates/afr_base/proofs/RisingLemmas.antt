@@ -112,7 +112,7 @@ rising_same k (x ∷ xs) (y ∷ ys) hs ht e =
         by false f false g = let h = e b in rw (f, g) at h
 
 -- ---- the bricks of the five that pass
-has_passing : (p : ℕ → Bool) (s : List ℕ) (b : ℕ) → member (filter p s) b ≡ (p b && member s b)
+pub has_passing : (p : ℕ → Bool) (s : List ℕ) (b : ℕ) → member (filter p s) b ≡ (p b && member s b)
 has_passing p [] b = none (p b)
   where
     none : (u : Bool) → false ≡ (u && false)

@@ -1,1 +1,1 @@
-mod Five
+pub mod Agreement

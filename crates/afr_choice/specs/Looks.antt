@@ -20,6 +20,10 @@ without_look b looked = record { reached = removed b looked.reached; views = sli
 abbrev pub view_at : ℕ → Looked → Option View
 view_at b looked = slice_index_or looked.views b None
 
+-- what each brick showed
+abbrev pub views_of : Looked → ℕ → Option View
+views_of looked x = view_at x looked
+
 -- the length in a view
 abbrev pub len_in : Option View → ℕ
 len_in None = 0

@@ -26,6 +26,10 @@ shown_missed kind c (Some view) = nat_lt 0 (slice_index (marks_of kind view.mark
 abbrev pub accuses_at : Kind → ℕ → ℕ → Looked → Bool
 accuses_at kind x c looked = member looked.reached x && shown_missed kind c (view_at x looked)
 
+-- the bricks that were reached and accuse brick c
+abbrev pub accusers_of : Kind → ℕ → Looked → List ℕ
+accusers_of kind c looked = filter (λ x. accuses_at kind x c looked) all_five
+
 -- some brick that was reached accuses brick c
 abbrev pub is_accused : Kind → Looked → ℕ → Bool
 is_accused kind looked c = list_any (λ x. accuses_at kind x c looked) all_five

@@ -1,9 +1,9 @@
 -- The sets of a verdict as tests, and what a verdict says of them.
-use Rattle.std.proofs.Common.{◌≡◌, ℕ, ◌<◌, ◌==◌, ◌&&◌, ◌||◌, not, Bool, true, false, List, [], ◌∷◌, refl, sym, ◌∙◌, ap, arith, filter, if◌then◌else◌, subst}
+use Rattle.std.proofs.Common.{◌≡◌, ℕ, ◌<◌, ◌==◌, ◌||◌, not, Bool, true, false, List, [], ◌∷◌, refl, ◌∙◌, ap, if◌then◌else◌, subst}
 use Rattle.std.specs.List.{list_any}
 use Rattle.std.proofs.lemmas.Bool.{eqb-true}
-use Rattle.std.proofs.lemmas.Bool.Decides.{nat_tests}
 use Rattle.afr_base.specs.Bricks.{all_five, member, is_nothing, IsIn, IsWithin, from_table, and_left, and_right}
+use Rattle.afr_base.proofs.OfFive.{chosen_below, chosen_passes, member_chosen}
 use Rattle.afr_base.specs.Keeping.{keeps}
 use Rattle.afr_base.specs.Majority.{is_majority}
 use Rattle.afr_base.specs.declared.ids.Kind.{Kind}
@@ -12,42 +12,15 @@ use Rattle.afr_choice.specs.declared.looked.Looked.{Looked}
 use Rattle.afr_choice.specs.declared.verdict.Verdict.TheVariants.{Short, Bare, Split, Sources}
 use Rattle.afr_choice.specs.Verdict.{is_holder, is_copy, is_good, accuses_at, is_accused, holders_of, copies_of, good_copies, verdict_of}
 
-member_filter : (p : ℕ → Bool) (xs : List ℕ) (b : ℕ) → member (filter p xs) b ≡ member xs b && p b
-member_filter p [] b = refl
-member_filter p (x ∷ xs) b = go (p x) refl (x == b) refl (member_filter p xs b)
-  where
-    go : (e : Bool) → p x ≡ e → (f : Bool) → (x == b) ≡ f → member (filter p xs) b ≡ member xs b && p b
-        → member (if e then x ∷ filter p xs else filter p xs) b ≡ (f || member xs b) && p b
-    go true h true g k = let at_b : p b ≡ true = subst (λ (y : ℕ). p y ≡ true) (eqb-true x b g) h in rw (g, at_b) refl
-    go true h false g k = rw g k
-    go false h true g k = let at_b : p b ≡ false = subst (λ (y : ℕ). p y ≡ false) (eqb-true x b g) h in k ∙ rw at_b (drop_test (member xs b))
-      where
-        drop_test : (m : Bool) → m && false ≡ false
-        drop_test true = refl
-        drop_test false = refl
-    go false h false g k = k
-
-chosen : (p : ℕ → Bool) (b : ℕ) → b < 5 → member (filter p all_five) b ≡ p b
-chosen p b l = member_filter p all_five b ∙ rw (from_table 5 (member all_five) refl b l) refl
-
-chosen_passes : (p : ℕ → Bool) (b : ℕ) → member (filter p all_five) b ≡ true → p b ≡ true
-chosen_passes p b m = and_right (member all_five b) (p b) (sym (member_filter p all_five b) ∙ m)
-
-chosen_below : (p : ℕ → Bool) → IsWithin 5 (filter p all_five)
-chosen_below p b m = five (and_left (member all_five b) (p b) (sym (member_filter p all_five b) ∙ m))
-  where
-    five : member all_five b ≡ true → b < 5
-    five h = grind (arith, nat_tests, h)
-
 -- the sets as tests
 pub member_holders : (looked : Looked) (b : ℕ) → b < 5 → member (holders_of looked) b ≡ is_holder looked b
-member_holders looked b l = chosen (is_holder looked) b l
+member_holders looked b l = member_chosen (is_holder looked) b l
 
 pub member_copies : (shape : Shape) (looked : Looked) (kind : Kind) (b : ℕ) → b < 5 → member (copies_of shape looked kind) b ≡ is_copy shape looked kind b
-member_copies shape looked kind b l = chosen (is_copy shape looked kind) b l
+member_copies shape looked kind b l = member_chosen (is_copy shape looked kind) b l
 
 pub member_good : (shape : Shape) (looked : Looked) (kind : Kind) (b : ℕ) → b < 5 → member (good_copies shape looked kind) b ≡ is_good shape looked kind b
-member_good shape looked kind b l = chosen (is_good shape looked kind) b l
+member_good shape looked kind b l = member_chosen (is_good shape looked kind) b l
 
 -- their members are bricks
 pub holders_below : (looked : Looked) → IsWithin 5 (holders_of looked)

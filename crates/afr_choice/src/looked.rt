@@ -1,8 +1,9 @@
 //! What the bricks showed of one object.
 ghost use Rattle.std.specs.Prelude.{◌≡◌, ◌<◌};
+ghost use Rattle.afr_base.specs.Marks.{marks_of};
 ghost use Rattle.afr_choice.specs.Looks.{no_looks, with_look, without_look};
 
-use afr_base::{BrickId, BrickSet};
+use afr_base::{BrickId, BrickSet, Kind, Marks};
 use afr_object::View;
 
 /// The bricks that answered their last look, and what each of them showed: no view where it lacks
@@ -40,5 +41,16 @@ impl Looked {
     {
         self.reached = self.reached.without(b);
         self.views[b.0 as usize] = None;
+    }
+}
+
+/// The numbers of one kind that a view shows, where they lie.
+pub fn marks_shown(view: &View, kind: Kind) -> &Marks
+    ensures { result.now ≡ marks_of kind view.now.marks }
+{
+    match kind {
+        Kind::Bytes => &view.marks.bytes,
+        Kind::Attrs => &view.marks.attrs,
+        Kind::Names => &view.marks.names,
     }
 }

@@ -1,8 +1,8 @@
 //! Who accuses whom, which copies are good, and what that makes of a look.
 ghost use Rattle.std.specs.Prelude.{◌≡◌, ◌+◌, ◌-◌, ◌*◌, ◌/◌, ◌<◌, ◌≤◌};
-ghost use Rattle.afr_choice.specs.Verdict.{is_holder, is_copy, shown_missed, accuses_at, is_accused, is_good, holders_of, copies_of, good_copies, verdict_of};
+ghost use Rattle.afr_choice.specs.Verdict.{is_holder, is_copy, shown_missed, accuses_at, accusers_of, is_accused, is_good, holders_of, copies_of, good_copies, verdict_of};
 
-use crate::looked::Looked;
+use crate::looked::{Looked, marks_shown};
 use afr_base::{BrickId, BrickSet, Kind, Shape};
 use afr_object::View;
 
@@ -68,7 +68,8 @@ pub fn judge(shape: &Shape, looked: &Looked, kind: Kind) -> Verdict
     Verdict::Sources(sources)
 }
 
-fn copies(shape: &Shape, looked: &Looked, kind: Kind) -> BrickSet
+/// The copies of what this kind is about, accused or not.
+pub fn copies(shape: &Shape, looked: &Looked, kind: Kind) -> BrickSet
     ensures { result ≡ copies_of shape.now looked.now kind }
 {
     let mut set = BrickSet::none();
@@ -85,7 +86,8 @@ fn has_view(looked: &Looked, b: BrickId) -> bool
     looked.reached.has(b) && looked.views[b.0 as usize].is_some()
 }
 
-fn has_copy(shape: &Shape, looked: &Looked, kind: Kind, b: BrickId) -> bool
+/// Whether the brick has such a copy.
+pub fn has_copy(shape: &Shape, looked: &Looked, kind: Kind, b: BrickId) -> bool
     requires { b.0 < 5 }
     ensures { result ≡ is_copy shape.now looked.now kind b.0 }
 {
@@ -112,6 +114,18 @@ fn is_blamed(looked: &Looked, kind: Kind, c: BrickId) -> bool
     false
 }
 
+/// The bricks that were reached and accuse brick `c`.
+pub fn accusers(looked: &Looked, kind: Kind, c: BrickId) -> BrickSet
+    requires { c.0 < 5 }
+    ensures { result ≡ accusers_of kind c.0 looked.now }
+{
+    let mut set = BrickSet::none();
+    for x in 0..5u8 {
+        set = set.with_if(blames(looked, kind, BrickId(x), c), BrickId(x));
+    }
+    set
+}
+
 fn blames(looked: &Looked, kind: Kind, x: BrickId, c: BrickId) -> bool
     requires by { x.0 < 5 }
     requires whom { c.0 < 5 }
@@ -120,12 +134,13 @@ fn blames(looked: &Looked, kind: Kind, x: BrickId, c: BrickId) -> bool
     looked.reached.has(x) && shows_missed(&looked.views[x.0 as usize], kind, c)
 }
 
-fn shows_missed(view: &Option<View>, kind: Kind, c: BrickId) -> bool
+/// Whether the view has operations that brick `c` missed: the one test of an accusation.
+pub(crate) fn shows_missed(view: &Option<View>, kind: Kind, c: BrickId) -> bool
     requires { c.0 < 5 }
     ensures { result ≡ shown_missed kind c.0 view.now }
 {
     match view {
-        Some(view) => view.marks.of(kind).accuses(c),
+        Some(view) => marks_shown(view, kind).accuses(c),
         None => false,
     }
 }

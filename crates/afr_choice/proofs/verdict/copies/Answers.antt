@@ -1,6 +1,6 @@
 use Rattle.std.proofs.Common.{arith}
 use Rattle.afr_choice.specs.Verdict.{is_copy}
-use Rattle.afr_choice.proofs.Five.{gathered}
+use Rattle.afr_base.proofs.OfFive.{gathered}
 use Rattle.afr_choice.proofs.verdict.copies.Goals as goal
 
 pub loop-b-preserved : goal.loop-b-preserved

@@ -1,6 +1,6 @@
 use Rattle.std.proofs.Common.{sym, ◌∙◌, arith}
 use Rattle.afr_choice.specs.Verdict.{accuses_at}
-use Rattle.afr_choice.proofs.Five.{some_passes}
+use Rattle.afr_base.proofs.OfFive.{some_passes}
 use Rattle.afr_choice.proofs.verdict.is_blamed.Goals as goal
 
 pub returns-then-blames : goal.returns-then-blames
