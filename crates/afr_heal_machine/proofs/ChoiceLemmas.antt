@@ -2,6 +2,7 @@
 use Rattle.std.proofs.Common.{zero, suc, slice_get, ◌||◌, ◌≡◌, ℕ, ◌<◌, ◌≤◌, ◌==◌, ◌&&◌, ◌∙◌, not, nat_lt, Bool, true, false, List, [], ◌∷◌, refl, sym, ap, arith, filter, map, length, subst, Option, None, Some, if◌then◌else◌}
 use Rattle.std.proofs.lemmas.Bool.Decides.{nat_tests}
 use Rattle.std.proofs.lemmas.Bool.{eqb-true}
+use Rattle.std.specs.Option.{unwrap_or}
 use Rattle.afr_base.proofs.OfFive.{chosen_same, member_chosen}
 use Rattle.afr_base.specs.Bricks.{all_five, below, common, from_table, member, minus}
 use Rattle.afr_base.specs.Five.{first_in}
