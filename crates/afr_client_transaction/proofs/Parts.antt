@@ -7,6 +7,7 @@ use Rattle.afr_base.specs.Majority.{is_most, count_below}
 use Rattle.afr_base.specs.SetLemmas.{member_added, member_removed, within_added_if, within_removed_if}
 use Rattle.afr_object.specs.declared.change.Change.{Change}
 use Rattle.afr_object.specs.declared.entry.View.{View}
+use Rattle.afr_choice.proofs.Agreement.{IsAnswered, holders_tell}
 use Rattle.afr_choice.specs.Looks.{no_looks, view_at, with_look, without_look}
 use Rattle.afr_choice.specs.LooksLemmas.{view_after_loss, view_after_other_look, view_after_other_loss, length_after_look, length_after_loss}
 use Rattle.afr_choice.specs.Verdict.{holders_of}
@@ -77,6 +78,9 @@ some_of_most n p h = some_of n p (go n (count n) h)
         pick false e = let z = count e in let k : nat_lt n (2 * 0) ≡ true = rw z at h in absurd (grind (arith, nat_tests, k))
 
 -- ---- looks
+pub answered_by : (n : ℕ) (looked : Looked) → Shown n looked → IsAnswered n looked
+answered_by n looked shown = record { low = shown.reached; shown = shown.seen }
+
 pub shown_none : (n : ℕ) → Shown n no_looks
 shown_none n = record { five = refl; reached = λ b m. absurd (cc m); seen = λ b h. absurd (none b h) }
   where
@@ -121,11 +125,7 @@ shown_loss n b looked few l k = record {
 
 -- a brick that shows a view is a holder
 pub holder_is : (n b : ℕ) (looked : Looked) → n ≤ 5 → b < n → Shown n looked → holder (views_of looked) b ≡ true → member (holders_of looked) b ≡ true
-holder_is n b looked few l k h = member_holders looked b (omega (arith, few, l)) ∙ pair (member looked.reached b) (is_some (view_at b looked)) (k.seen b (some (view_at b looked) h)) (some (view_at b looked) h)
-  where
-    some : (v : Option View) → holder (λ x. v) 0 ≡ true → is_some v ≡ true
-    some None h = absurd (cc h)
-    some (Some view) h = refl
+holder_is n b looked few l k h = holders_tell n looked few (answered_by n looked k) b (omega (arith, few, l)) ∙ h
 
 pub holder_shows : (b : ℕ) (looked : Looked) → member (holders_of looked) b ≡ true → b < 5 → (holder (views_of looked) b ≡ true) × (member looked.reached b ≡ true)
 holder_shows b looked m l =

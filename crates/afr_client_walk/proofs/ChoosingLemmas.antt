@@ -1,12 +1,12 @@
 -- The copies that the read rule chooses from, and the one that it picks.
 use Rattle.std.proofs.Common.{zero, suc, slice_get, ◌≡◌, ℕ, ◌<◌, ◌==◌, ◌||◌, Bool, true, false, List, [], ◌∷◌, refl, sym, ap, ◌∙◌, arith, map, length, subst, if◌then◌else◌, Option, None, Some}
 use Rattle.std.proofs.lemmas.Bool.Decides.{nat_tests}
-use Rattle.afr_base.specs.Bricks.{all_five, is_nothing, member}
+use Rattle.afr_base.specs.Bricks.{is_nothing, member}
 use Rattle.afr_base.specs.declared.ids.BrickId.{BrickId}
 use Rattle.afr_base.specs.declared.ids.Kind.{Kind}
 use Rattle.afr_base.specs.declared.ids.Shape.{Shape}
-use Rattle.afr_choice.specs.Verdict.{good_copies, is_good, verdict_of}
-use Rattle.afr_choice.specs.VerdictLemmas.{good_below, member_good, sources_say}
+use Rattle.afr_choice.specs.Verdict.{good_copies, verdict_of}
+use Rattle.afr_choice.specs.VerdictLemmas.{good_below, sources_say}
 use Rattle.afr_choice.specs.declared.looked.Looked.{Looked}
 use Rattle.afr_choice.specs.declared.verdict.Verdict.{Verdict}
 use Rattle.afr_choice.specs.declared.verdict.Verdict.TheVariants.{Sources}
@@ -15,19 +15,6 @@ use Rattle.afr_rule.specs.Copies.{copy_in}
 use Rattle.afr_rule.specs.declared.candidate.Candidate.{Candidate}
 use Rattle.afr_client_walk.specs.Choosing.{IsAmong, RuleAnswers, candidates_of, choices, has_sources, offers, reader_of}
 
--- ---- gathering them
--- the flags of the good copies are their test
-pub flags_of : (shape : Shape) (looked : Looked) (kind : Kind) (sources : List ℕ) (a b c d e : Bool) → sources ≡ good_copies shape looked kind
-    → a ≡ member sources 0 → b ≡ member sources 1 → c ≡ member sources 2 → d ≡ member sources 3 → e ≡ member sources 4
-    → a ∷ b ∷ c ∷ d ∷ e ∷ [] ≡ map (is_good shape looked kind) all_five
-flags_of shape looked kind sources a b c d e is fa fb fc fd fe =
-    let g0 = at 0 (omega arith) fa in let g1 = at 1 (omega arith) fb in let g2 = at 2 (omega arith) fc in let g3 = at 3 (omega arith) fd in let g4 = at 4 (omega arith) fe in
-    λ i. g0 i ∷ g1 i ∷ g2 i ∷ g3 i ∷ g4 i ∷ []
-  where
-    at : (x : ℕ) → x < 5 → {f : Bool} → f ≡ member sources x → f ≡ is_good shape looked kind x
-    at x low e = e ∙ ap (λ (s : List ℕ). member s x) is ∙ member_good shape looked kind x low
-
--- ---- what is picked
 pub offers_map : (looked : Looked) (s : List ℕ) (b : ℕ) → offers (map (copy_in looked) s) b ≡ member s b
 offers_map looked [] b = refl
 offers_map looked (x ∷ xs) b = ap (λ (rest : Bool). (x == b) || rest) (offers_map looked xs b)

@@ -14,14 +14,7 @@ fn candidates(shape: &Shape, looked: &Looked, kind: Kind) -> Candidates
     ensures { result ≡ candidates_of shape.now looked.now kind }
 {
     let sources = good(shape, looked, kind);
-    let flags = [
-        sources.has(BrickId(0)),
-        sources.has(BrickId(1)),
-        sources.has(BrickId(2)),
-        sources.has(BrickId(3)),
-        sources.has(BrickId(4)),
-    ];
-    Candidates::of(flags, looked)
+    Candidates::of(sources, looked)
 }
 
 /// The good copy that the rule picks.

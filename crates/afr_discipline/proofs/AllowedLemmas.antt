@@ -1,6 +1,7 @@
 -- A request that one of the possible sources allows is allowed by each of them, where all are alike or one is left.
-use Rattle.std.proofs.Common.{◌≡◌, ℕ, zero, suc, ◌+◌, ◌<◌, ◌≤◌, ◌&&◌, ◌⊎◌, inl, inr, Bool, true, false, List, [], nat_le, if◌then◌else◌, refl, sym, ap, subst, ◌∙◌, arith}
+use Rattle.std.proofs.Common.{◌≡◌, ℕ, zero, suc, ◌+◌, ◌<◌, ◌≤◌, ◌&&◌, ◌⊎◌, inl, inr, Bool, true, false, [], nat_le, if◌then◌else◌, refl, sym, ap, subst, ◌∙◌, arith}
 use Rattle.std.proofs.lemmas.Bool.{cases_lt}
+use Rattle.afr_base.proofs.OfFive.{picked_same}
 use Rattle.afr_base.specs.Bricks.{member}
 use Rattle.afr_base.specs.Majority.{count_below}
 use Rattle.afr_base.specs.declared.ids.Kind.{Kind}
@@ -14,7 +15,7 @@ use Rattle.afr_model_moves.specs.Sets.{any}
 use Rattle.afr_model_moves.specs.Steps.{goes_on, may_heal}
 use Rattle.afr_discipline.specs.Alike.{IsAlike}
 use Rattle.afr_discipline.specs.Inside.{allows, is_unlock}
-use Rattle.afr_discipline.specs.Notes.{picked, possible_now, still_possible}
+use Rattle.afr_discipline.specs.Notes.{possible_now, still_possible}
 use Rattle.afr_discipline.specs.Stands.{seen_as}
 use Rattle.afr_discipline.specs.declared.register.Register.{Register}
 
@@ -83,10 +84,6 @@ module _ (n : ℕ) (keeps : ℕ → Kind → Bool) (r : Exact) (b : ℕ) (reques
       go : (x : Bool) → r.possible s ≡ x → allows n keeps r b request s ≡ r.possible s
       go true e = subst (λ (x : ℕ). allows n keeps r b request x ≡ r.possible x) (one_member r.possible one s t small low e is) (this ∙ sym is)
       go false e = ap (λ (m : Bool). m && may_heal n keeps r s b request) e ∙ sym e
-
--- tests that are the same pick the same bricks
-picked_same : (p q : ℕ → Bool) → ((s : ℕ) → s < 5 → p s ≡ q s) → picked (p 0) (p 1) (p 2) (p 3) (p 4) ≡ picked (q 0) (q 1) (q 2) (q 3) (q 4)
-picked_same p q h = λ i. picked (h 0 (omega arith) i) (h 1 (omega arith) i) (h 2 (omega arith) i) (h 3 (omega arith) i) (h 4 (omega arith) i)
 
 -- what might be the source still may, where all are alike
 pub alike_left : (p : Register) (b : ℕ) (request : Request) → IsAlike (keeps_in p.shape) (seen_as p) request → any p.shape.n (allows p.shape.n (keeps_in p.shape) (seen_as p) b request) ≡ true

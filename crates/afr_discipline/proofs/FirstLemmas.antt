@@ -1,13 +1,38 @@
--- The bricks of a set below a number: whether there are some, and the lowest of them.
-use Rattle.std.proofs.Common.{◌≡◌, ◌∙◌, ◌⊎◌, inl, inr, ℕ, zero, suc, ◌<◌, ◌≤◌, ◌&&◌, not, Bool, true, false, List, Option, None, Some, refl, sym, ap, subst, arith}
-use Rattle.afr_base.specs.Bricks.{below, common, is_nothing, lowest, member, minus}
-use Rattle.afr_base.specs.SetLemmas.{below_all, lowest_in, member_minus, some_member, within_below}
-use Rattle.afr_model_moves.proofs.Tests.{some_no}
+-- The bricks of a set below a number: whether there are some, whether it has all of them, and the lowest of them.
+use Rattle.std.proofs.Common.{◌≡◌, ◌∙◌, ◌⊎◌, inl, inr, ℕ, zero, suc, ◌<◌, ◌≤◌, ◌&&◌, not, Bool, true, false, List, Option, None, Some, filter, refl, sym, ap, subst, arith}
+use Rattle.afr_base.proofs.OfFive.{member_chosen}
+use Rattle.afr_base.specs.Bricks.{all_five, below, common, is_nothing, lowest, member, minus}
+use Rattle.afr_base.specs.Majority.{is_most}
+use Rattle.afr_base.specs.SetLemmas.{below_all, lowest_in, lowest_left, member_minus, most_same, none_left, some_member, within_below}
+use Rattle.afr_base.specs.declared.ids.Kind.{Kind}
+use Rattle.afr_object.specs.declared.entry.View.{View}
+use Rattle.afr_choice.proofs.Agreement.{one_is_missing}
+use Rattle.afr_model_moves.proofs.Tests.{all_no, some_no}
+use Rattle.afr_model_moves.specs.Register.{all, good}
 use Rattle.afr_model_moves.specs.Sets.{any}
+use Rattle.afr_discipline.specs.Tests.{suffices_by}
 use Rattle.afr_discipline.specs.Turns.{find}
 
 last : (k n : ℕ) → k < suc n → (k < n) ⊎ (k ≡ n)
 last k n l = grind arith
+
+-- ---- tests that agree below a number
+pub any_same : (n : ℕ) (p q : ℕ → Bool) → ((x : ℕ) → x < n → p x ≡ q x) → any n p ≡ any n q
+any_same zero p q h = refl
+any_same (suc n) p q h = rw (h n (omega arith), any_same n p q (λ x l. h x (omega (arith, l)))) refl
+
+pub all_same : (n : ℕ) (p q : ℕ → Bool) → ((x : ℕ) → x < n → p x ≡ q x) → all n p ≡ all n q
+all_same zero p q h = refl
+all_same (suc n) p q h = rw (h n (omega arith), all_same n p q (λ x l. h x (omega (arith, l)))) refl
+
+pub find_same : (n : ℕ) (p q : ℕ → Bool) → ((x : ℕ) → x < n → p x ≡ q x) → find n p ≡ find n q
+find_same zero p q h = refl
+find_same (suc n) p q h = rw (h n (omega arith), find_same n p q (λ x l. h x (omega (arith, l)))) refl
+
+pub suffices_same : (n : ℕ) (keeps : ℕ → Kind → Bool) (kind : Kind) (views : ℕ → Option View) (p q : ℕ → Bool) → ((x : ℕ) → x < n → p x ≡ q x) → suffices_by n keeps kind views p ≡ suffices_by n keeps kind views q
+suffices_same n keeps kind views p q h =
+    ap (λ (m : Bool). m && any n (λ s. p s && good n keeps kind views s)) (most_same n p q h)
+    ∙ ap (λ (m : Bool). is_most n q && m) (any_same n (λ s. p s && good n keeps kind views s) (λ s. q s && good n keeps kind views s) (λ x l. ap (λ (m : Bool). m && good n keeps kind views x) (h x l)))
 
 -- ---- what is found below a number
 find_none : (n : ℕ) (p : ℕ → Bool) → ((b : ℕ) → b < n → p b ≡ false) → find n p ≡ None
@@ -76,3 +101,23 @@ module _ (n : ℕ) (s few : List ℕ) (five : n ≤ 5) (is : few ≡ common s (b
           let there : member few (lowest few) ≡ true = lowest_in few e in
           let low : lowest few < n = inside (lowest few) there in
           rw e (sym (some_no n (member s) (lowest few) low (sym (shared (lowest few) low) ∙ there)))
+
+-- the bricks that pass a test, of a set
+pub some_both : (n : ℕ) → n ≤ 5 → (p : ℕ → Bool) (set chosen few : List ℕ) → chosen ≡ filter p all_five → few ≡ common chosen set → any n (member few) ≡ any n (λ s. member set s && p s)
+some_both n five p set chosen few is are =
+    any_same n (member few) (λ s. member set s && p s)
+    (λ x l.
+    ap (λ (t : List ℕ). member t x) are ∙ in_common chosen set x ∙ ap (λ (m : Bool). member set x && m) (ap (λ (t : List ℕ). member t x) is ∙ member_chosen p x (omega (arith, l, five))))
+
+-- nothing is missing below a number where the set has all of them
+pub none_missing : (n : ℕ) → n ≤ 5 → (s missing : List ℕ) → missing ≡ minus (below n) s → is_nothing missing ≡ all n (member s)
+none_missing n five s missing is = go (is_nothing missing) refl
+  where
+    at : (x : Bool) → is_nothing missing ≡ x → is_nothing (minus (below n) s) ≡ x
+    at x e = ap is_nothing (sym is) ∙ e
+
+    go : (x : Bool) → is_nothing missing ≡ x → is_nothing missing ≡ all n (member s)
+    go true e = e ∙ sym (all_no n (member s) (λ x l. none_left (below n) s (at true e) x (below_all n x five l)))
+    go false e =
+        let one = lowest_left (below n) s (at false e) in
+        e ∙ sym (one_is_missing n (member s) (lowest (minus (below n) s)) (within_below n (lowest (minus (below n) s)) one.1) one.0)

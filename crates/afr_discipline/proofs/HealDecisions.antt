@@ -1,5 +1,5 @@
 -- The test of a move is true exactly where the discipline allows the move.
-use Rattle.std.proofs.Common.{◌≡◌, ℕ, zero, suc, ◌<◌, ◌≤◌, ◌||◌, not, ◌==◌, nat_lt, Bool, true, false, refl, sym, ◌∙◌, ap, arith, Some, ◌⊎◌, inl, inr, if◌then◌else◌}
+use Rattle.std.proofs.Common.{◌≡◌, ℕ, ◌≤◌, ◌||◌, not, ◌==◌, nat_lt, Bool, true, false, refl, sym, ◌∙◌, ap, Some, ◌⊎◌, inl, inr, if◌then◌else◌}
 use Rattle.std.proofs.lemmas.Bool.{eqb-true, and_parts, and_from, not-true, not_from_false, or_cases, or_left, or_right, eq-eqb, ltb-true, lt-ltb}
 use Rattle.afr_base.specs.Majority.{IsMajority, is_most}
 use Rattle.afr_base.specs.declared.ids.Kind.{Kind}
@@ -27,6 +27,7 @@ use Rattle.afr_discipline.specs.Stands.{Stands, seen_as}
 use Rattle.afr_discipline.specs.Tests.{may_move_outside}
 use Rattle.afr_discipline.proofs.StandsLemmas.{filled, is_filled}
 use Rattle.afr_discipline.proofs.Decisions.{decided, asks_unseen}
+use Rattle.afr_discipline.proofs.FirstLemmas.{any_same}
 use Rattle.afr_model_moves.proofs.Tests.{some_yes, some_no, most_yes, most_no, same_kind_yes, same_kind_self, work_locks}
 
 unlock_yes : (request : Request) → is_unlock request ≡ true → IsUnlock request
@@ -144,11 +145,6 @@ all_decided n keeps r step few = go r.law.heal refl
     go : (x : Bool) → r.law.heal ≡ x → IffTrue (if x then may_move_inside n keeps r step else may_move_outside n keeps r step) (MayMove n keeps r step)
     go true inside = decided_inside n keeps r step inside
     go false out = decided n keeps r step few out
-
--- tests that are the same below n find the same
-pub any_same : (n : ℕ) (p q : ℕ → Bool) → ((x : ℕ) → x < n → p x ≡ q x) → any n p ≡ any n q
-any_same zero p q h = refl
-any_same (suc n) p q h = rw (h n (omega arith), any_same n p q (λ x l. h x (omega (arith, l)))) refl
 
 -- what a heal may ask is told by the fields that the program has
 pub heal_unseen : (p : Register) (r : Exact) (s b : ℕ) (request : Request) → may_heal p.shape.n (keeps_in p.shape) (filled p r) s b request ≡ may_heal p.shape.n (keeps_in p.shape) (seen_as p) s b request

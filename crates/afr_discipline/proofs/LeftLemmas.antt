@@ -19,6 +19,12 @@ use Rattle.afr_discipline.specs.Turns.{find, later, turn_of}
 abbrev Waiting : (ℕ → Bool) → (ℕ → Bool) → (ℕ → Bool) → Type 0
 Waiting set asked left = (x : ℕ) → x < 5 → left x ≡ (set x && not (asked x))
 
+pub turned_round : (a b : Bool) → (not a && b) ≡ (b && not a)
+turned_round true true = refl
+turned_round true false = refl
+turned_round false true = refl
+turned_round false false = refl
+
 -- one brick more: it is out of the set or asked exactly where it is not left
 one_more : (a b y : Bool) → ((not a || b) && not y) ≡ not ((a && not b) || y)
 one_more true true y = refl
@@ -73,6 +79,11 @@ found_left (suc n) few set asked left are =
         let past : over n set asked ≡ true = over_left n (omega arith) set asked left are ∙ ap not (none_passes n left h) in
         ap (λ (here : Bool). later None n here) (and_true (set n) (asked n) (over n set asked) past ∙ sym (are n (omega arith)))
 
+-- so for sets
+pub all_asked : (m : ℕ) → m ≤ 5 → (set asked left : List ℕ) → left ≡ minus set asked → not (any m (member left)) ≡ over m (member set) (member asked)
+all_asked m few set asked left is =
+    sym (over_left m few (member set) (member asked) (member left) (λ x l. ap (λ (t : List ℕ). member t x) is ∙ member_minus set asked x ∙ turned_round (member asked x) (member set x)))
+
 -- each brick of the step below a number was asked exactly where none of them is left
 pub over_is_none_left : (m : ℕ) → m ≤ 5 → (p : Register) (s : ℕ) (step : TheStep) (left : List ℕ) → AreLeft p s step left
     → over m (set_of p.shape.n (keeps_in p.shape) (seen_as p) s (step_of step)) (asked_in (seen_as p) (step_of step)) ≡ not (any m (member left))
@@ -100,12 +111,6 @@ asked_is p step x = go (same_step (step_of p.step) (step_of step))
     go : (e : Bool) → member (if e then p.asked else []) x ≡ (if e then member p.asked else empty) x
     go true = refl
     go false = refl
-
-turned_round : (a b : Bool) → (not a && b) ≡ (b && not a)
-turned_round true true = refl
-turned_round true false = refl
-turned_round false true = refl
-turned_round false false = refl
 
 -- where the step's bricks are a set, those of it that were not asked are left
 pub left_of_set : (p : Register) (s : ℕ) (step : TheStep) (set : List ℕ) → ((x : ℕ) → x < 5 → member set x ≡ set_of p.shape.n (keeps_in p.shape) (seen_as p) s (step_of step) x)

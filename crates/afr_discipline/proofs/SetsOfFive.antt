@@ -1,19 +1,22 @@
 -- Sets, views and reads of the five bricks as the tests and functions of the law.
-use Rattle.std.proofs.Common.{◌≡◌, ℕ, zero, suc, ◌<◌, ◌==◌, ◌||◌, ◌&&◌, not, Bool, true, false, if◌then◌else◌, List, [], length, slice_index_or, slice_set, Option, None, refl, sym, subst, ap, ◌∙◌, arith}
+use Rattle.std.proofs.Common.{◌≡◌, ℕ, ◌<◌, ◌==◌, ◌&&◌, not, nat_lt, Bool, true, false, if◌then◌else◌, List, [], length, slice_index_or, slice_set, Option, None, refl, sym, subst, ap, ◌∙◌, arith}
 use Rattle.std.proofs.Math.Path.{fun_ext}
 use Rattle.std.proofs.lemmas.Bool.{eqb-true}
 use Rattle.std.proofs.lemmas.Bool.Decides.{nat_tests}
 use Rattle.std.proofs.lemmas.List.{get_or-set_same, get_or-set_other}
 use Rattle.afr_base.specs.Bricks.{added, added_if, member, removed}
-use Rattle.afr_base.specs.SetLemmas.{member_added, member_added_if, member_removed}
+use Rattle.afr_base.specs.SetLemmas.{member_added, member_removed}
+use Rattle.afr_base.specs.declared.ids.Kind.TheVariants.{Bytes}
+use Rattle.afr_base.specs.declared.ids.Shape.{Shape}
 use Rattle.afr_object.specs.declared.entry.View.{View}
 use Rattle.afr_choice.specs.Looks.{with_look, without_look}
 use Rattle.afr_choice.specs.declared.looked.Looked.{Looked}
 use Rattle.afr_model_moves.specs.Sets.{empty, with, without}
+use Rattle.afr_model_moves.specs.Keeps.{keeps_in}
 use Rattle.afr_model_moves.specs.Note.{put}
-use Rattle.afr_discipline.specs.Notes.{picked}
+use Rattle.afr_discipline.proofs.LeftLemmas.{turned_round}
 use Rattle.afr_discipline.specs.Stands.{reads_of, views_of}
-use Rattle.afr_model_moves.proofs.Tests.{same_self, turned, or_choice, and_choice}
+use Rattle.afr_model_moves.proofs.Tests.{turned, or_choice, and_choice}
 
 -- ---- one brick more or less
 -- the test of a set and one more brick is that of the set with it
@@ -74,78 +77,24 @@ put_no_view b few looked five = fun_ext (λ x. put_at View looked.views b None (
 pub put_read : (b : ℕ) → b < 5 → (reads : List (Option ℕ)) (v : Option ℕ) → length reads ≡ 5 → put (reads_of reads) b v ≡ reads_of (slice_set reads b v)
 put_read b few reads v five = fun_ext (λ x. put_at ℕ reads b v (omega arith) x)
 
--- ---- the bricks of the five that pass
--- another number
-off : (flag m : Bool) → ((flag && false) || m) ≡ m
-off true m = refl
-off false m = refl
+-- ---- the copies of bytes
+five_here : (x : ℕ) → x < 5 → nat_lt x 5 ≡ true
+five_here x few = grind (arith, nat_tests, few)
 
--- the number itself
-on : (flag : Bool) → ((flag && true) || false) ≡ flag
-on true = refl
-on false = refl
+-- without an arbiter each of the five bricks keeps bytes
+pub keeping_all : (shape : Shape) (m there : Bool) (x : ℕ) → x < 5 → shape.arbiter ≡ false → m ≡ there → m ≡ (there && keeps_in shape x Bytes)
+keeping_all shape m there x few none is = is ∙ sym (ap (λ (k : Bool). there && k) kept ∙ whole there)
+  where
+    kept : keeps_in shape x Bytes ≡ true
+    kept = (λ i. five_here x few i && not (none i && true && (x == 2)))
 
--- another brick is as it was
-others : (flag : Bool) (b x : ℕ) (s : List ℕ) → (b == x) ≡ false → member (added_if flag b s) x ≡ member s x
-others flag b x s h = member_added_if flag b s x ∙ ap (λ (e : Bool). (flag && e) || member s x) h ∙ off flag (member s x)
+    whole : (y : Bool) → (y && true) ≡ y
+    whole true = refl
+    whole false = refl
 
--- a brick that was not in the set is there where the flag is set
-here : (flag : Bool) (b : ℕ) (s : List ℕ) → member s b ≡ false → member (added_if flag b s) b ≡ flag
-here flag b s h = member_added_if flag b s b ∙ ap (λ (e : Bool). (flag && e) || member s b) (same_self b) ∙ ap (λ (m : Bool). (flag && true) || m) h ∙ on flag
-
--- of the five, the first where it passes
-abbrev upto_first : Bool → List ℕ
-upto_first a = added_if a 0 []
-
--- up to the second
-abbrev upto_second : Bool → Bool → List ℕ
-upto_second a b = added_if b 1 (upto_first a)
-
--- up to the third
-abbrev upto_third : Bool → Bool → Bool → List ℕ
-upto_third a b c = added_if c 2 (upto_second a b)
-
--- up to the fourth
-abbrev upto_fourth : Bool → Bool → Bool → Bool → List ℕ
-upto_fourth a b c d = added_if d 3 (upto_third a b c)
-
--- a later brick is not in the first
-none_first : (a : Bool) (x : ℕ) → (0 == x) ≡ false → member (upto_first a) x ≡ false
-none_first a x h = others a 0 x [] h
-
--- nor in the first two
-none_second : (a b : Bool) (x : ℕ) → (0 == x) ≡ false → (1 == x) ≡ false → member (upto_second a b) x ≡ false
-none_second a b x h k = others b 1 x (upto_first a) k ∙ none_first a x h
-
--- nor in the first three
-none_third : (a b c : Bool) (x : ℕ) → (0 == x) ≡ false → (1 == x) ≡ false → (2 == x) ≡ false → member (upto_third a b c) x ≡ false
-none_third a b c x h k l = others c 2 x (upto_second a b) l ∙ none_second a b x h k
-
--- nor in the first four
-none_fourth : (a b c d : Bool) (x : ℕ) → (0 == x) ≡ false → (1 == x) ≡ false → (2 == x) ≡ false → (3 == x) ≡ false → member (upto_fourth a b c d) x ≡ false
-none_fourth a b c d x h k l m = others d 3 x (upto_third a b c) m ∙ none_third a b c x h k l
-
--- each brick is there where its flag is set
-picked_first : (a b c d e : Bool) → member (picked a b c d e) 0 ≡ a
-picked_first a b c d e = others e 4 0 (upto_fourth a b c d) refl ∙ others d 3 0 (upto_third a b c) refl ∙ others c 2 0 (upto_second a b) refl ∙ others b 1 0 (upto_first a) refl ∙ here a 0 [] refl
-
-picked_second : (a b c d e : Bool) → member (picked a b c d e) 1 ≡ b
-picked_second a b c d e = others e 4 1 (upto_fourth a b c d) refl ∙ others d 3 1 (upto_third a b c) refl ∙ others c 2 1 (upto_second a b) refl ∙ here b 1 (upto_first a) (none_first a 1 refl)
-
-picked_third : (a b c d e : Bool) → member (picked a b c d e) 2 ≡ c
-picked_third a b c d e = others e 4 2 (upto_fourth a b c d) refl ∙ others d 3 2 (upto_third a b c) refl ∙ here c 2 (upto_second a b) (none_second a b 2 refl refl)
-
-picked_fourth : (a b c d e : Bool) → member (picked a b c d e) 3 ≡ d
-picked_fourth a b c d e = others e 4 3 (upto_fourth a b c d) refl ∙ here d 3 (upto_third a b c) (none_third a b c 3 refl refl refl)
-
-picked_fifth : (a b c d e : Bool) → member (picked a b c d e) 4 ≡ e
-picked_fifth a b c d e = here e 4 (upto_fourth a b c d) (none_fourth a b c d 4 refl refl refl refl)
-
--- a brick of the five is in the set exactly where it passes
-pub member_picked : (test : ℕ → Bool) (s : ℕ) → s < 5 → member (picked (test 0) (test 1) (test 2) (test 3) (test 4)) s ≡ test s
-member_picked test zero few = picked_first (test 0) (test 1) (test 2) (test 3) (test 4)
-member_picked test (suc zero) few = picked_second (test 0) (test 1) (test 2) (test 3) (test 4)
-member_picked test (suc (suc zero)) few = picked_third (test 0) (test 1) (test 2) (test 3) (test 4)
-member_picked test (suc (suc (suc zero))) few = picked_fourth (test 0) (test 1) (test 2) (test 3) (test 4)
-member_picked test (suc (suc (suc (suc zero)))) few = picked_fifth (test 0) (test 1) (test 2) (test 3) (test 4)
-member_picked test (suc (suc (suc (suc (suc s))))) few = absurd (omega arith)
+-- with one, each but brick 2
+pub keeping_no_arbiter : (shape : Shape) (m there : Bool) (x : ℕ) → x < 5 → shape.arbiter ≡ true → m ≡ there → (not (2 == x) && m) ≡ (there && keeps_in shape x Bytes)
+keeping_no_arbiter shape m there x few some is = (λ i. not (turned 2 x i) && is i) ∙ turned_round (x == 2) there ∙ sym (ap (λ (k : Bool). there && k) kept)
+  where
+    kept : keeps_in shape x Bytes ≡ not (x == 2)
+    kept = (λ i. five_here x few i && not (some i && true && (x == 2)))

@@ -24,7 +24,8 @@ use Rattle.afr_discipline.specs.Stands.{HasFive, heal_part_of, seen_as, step_of}
 use Rattle.afr_discipline.proofs.StandsLemmas.{filled}
 use Rattle.afr_discipline.proofs.HealDecisions.{heal_unseen}
 use Rattle.afr_discipline.proofs.NotedShape.{inside_shape}
-use Rattle.afr_discipline.proofs.SetsOfFive.{member_picked, put_read}
+use Rattle.afr_base.proofs.OfFive.{member_picked}
+use Rattle.afr_discipline.proofs.SetsOfFive.{put_read}
 use Rattle.afr_discipline.proofs.StepsOutside.{MayMatch, StepsStand, WalkStands, asked_again, counted_reached, counted_views, entered_walks, shown_reached, shown_views, whole_with}
 
 -- the part of a heal that a Work lock begins

@@ -14,7 +14,7 @@ use Rattle.afr_discipline.specs.Notes.{joined, stopped}
 use Rattle.afr_model_moves.specs.Keeps.{keeps_in}
 use Rattle.afr_discipline.specs.Stands.{Stands, seen_as, step_of}
 use Rattle.afr_discipline.proofs.StandsLemmas.{filled}
-use Rattle.afr_discipline.proofs.HealDecisions.{any_same}
+use Rattle.afr_discipline.proofs.FirstLemmas.{any_same}
 use Rattle.afr_discipline.proofs.NotedLaw.{LawStands, stopped_law}
 use Rattle.afr_discipline.proofs.StepsOutside.{MayMatch, StepsStand, asked_if}
 

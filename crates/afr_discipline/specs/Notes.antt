@@ -1,6 +1,7 @@
 -- What a move and its answer leave in the program's register.
 use Rattle.std.specs.Prelude.{◌≡◌, ℕ, ◌+◌, ◌<◌, ◌==◌, ◌||◌, ◌&&◌, not, nat_lt, Bool, true, false, if◌then◌else◌, List, [], ◌∷◌, Option, None, Some, slice_set}
 use Rattle.afr_base.specs.Bricks.{added, added_if, member, removed}
+use Rattle.afr_base.specs.Five.{picked}
 use Rattle.afr_base.specs.declared.ids.Kind.{Kind}
 use Rattle.afr_base.specs.declared.ids.Kind.TheVariants.{Bytes}
 use Rattle.afr_choice.specs.Looks.{no_looks, with_look, without_look}
@@ -175,10 +176,6 @@ broken_by p (Lock Work area) told = fails told && not (is_opening (heal_part_of 
 broken_by p (Look g) told = fails told && not (is_opening (heal_part_of p.part))
 broken_by p (Unlock domain area) told = is_gone told
 broken_by p request told = fails told
-
--- the bricks of the five that pass
-abbrev pub picked : Bool → Bool → Bool → Bool → Bool → List ℕ
-picked a b c d e = added_if e 4 (added_if d 3 (added_if c 2 (added_if b 1 (added_if a 0 []))))
 
 -- the copies that may still be the source
 abbrev pub still_possible : Register → ℕ → Request → List ℕ

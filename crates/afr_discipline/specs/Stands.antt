@@ -3,9 +3,8 @@ use Rattle.std.specs.Prelude.{◌≡◌, ℕ, suc, ◌<◌, false, List, [], ◌
 use Rattle.afr_base.specs.Bricks.{below, member}
 use Rattle.afr_base.specs.declared.ids.Kind.TheVariants.{Bytes}
 use Rattle.afr_base.specs.declared.ids.Shape.{Shape}
-use Rattle.afr_object.specs.declared.entry.View.{View}
-use Rattle.afr_choice.specs.Looks.{no_looks, view_at}
-use Rattle.afr_choice.specs.declared.looked.Looked.{Looked}
+use Rattle.afr_choice.specs.Looks.{no_looks}
+pub use Rattle.afr_choice.specs.Looks.{views_of}
 use Rattle.afr_model_moves.specs.Rules.{fresh}
 use Rattle.afr_model_moves.specs.Register as exact
 use Rattle.afr_model_moves.specs.Register.{Exact}
@@ -42,10 +41,6 @@ heal_part_of heal_part.Finish = exact.Finish
 abbrev pub number_of : Option ℕ → ℕ
 number_of None = 0
 number_of (Some q) = suc q
-
--- what each brick showed
-abbrev pub views_of : Looked → ℕ → Option View
-views_of looked x = view_at x looked
 
 -- the position of the read at each brick
 abbrev pub reads_of : List (Option ℕ) → ℕ → Option ℕ

@@ -3,6 +3,7 @@ ghost use Rattle.std.specs.Prelude.{◌≡◌, ◌<◌, ◌≤◌};
 ghost use Rattle.afr_model_moves.specs.Sets.{any};
 ghost use Rattle.afr_model_moves.specs.Steps.{may_heal};
 ghost use Rattle.afr_discipline.specs.Inside.{allows, is_unlock, may_ask_inside};
+ghost use Rattle.afr_discipline.specs.Notes.{still_possible};
 ghost use Rattle.afr_model_moves.specs.Keeps.{keeps_in};
 ghost use Rattle.afr_discipline.specs.Stands.{seen_as};
 
@@ -12,9 +13,9 @@ use crate::heal_moves::{
 };
 use crate::heal_numbers::may_settle;
 use crate::heal_reads::may_repair;
-use crate::of_five::any_of;
 use crate::register::Register;
-use afr_base::BrickId;
+use crate::views::has_some;
+use afr_base::{BrickId, BrickSet};
 use afr_lines::{Area, Domain, Request};
 
 fn may_lock(register: &Register, s: BrickId, b: BrickId, domain: Domain, area: Area) -> bool
@@ -79,19 +80,27 @@ pub(crate) fn is_allowed_by(register: &Register, s: BrickId, b: BrickId, request
     register.possible.has(s) && may_heal(register, s, b, request)
 }
 
-fn some_allows(register: &Register, b: BrickId, request: &Request) -> bool
+/// The copies that may still be the source, one by one.
+pub(crate) fn each_possible(register: &Register, b: BrickId, request: &Request) -> BrickSet
     requires few { register.now.shape.n ≤ 5 }
     requires small { b.0 < 5 }
-    ensures { result ≡ any register.now.shape.n (allows register.now.shape.n (keeps_in register.now.shape) (seen_as register.now) b.0 request.now) }
+    ensures { result ≡ still_possible register.now b.0 request.now }
 {
-    any_of(
-        register.shape.n,
+    BrickSet::of_five(
         is_allowed_by(register, BrickId(0), b, request),
         is_allowed_by(register, BrickId(1), b, request),
         is_allowed_by(register, BrickId(2), b, request),
         is_allowed_by(register, BrickId(3), b, request),
         is_allowed_by(register, BrickId(4), b, request),
     )
+}
+
+fn some_allows(register: &Register, b: BrickId, request: &Request) -> bool
+    requires few { register.now.shape.n ≤ 5 }
+    requires small { b.0 < 5 }
+    ensures { result ≡ any register.now.shape.n (allows register.now.shape.n (keeps_in register.now.shape) (seen_as register.now) b.0 request.now) }
+{
+    has_some(register.shape.n, each_possible(register, b, request))
 }
 
 pub(crate) fn gives_back(request: &Request) -> bool

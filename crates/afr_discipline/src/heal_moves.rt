@@ -11,9 +11,8 @@ ghost use Rattle.afr_model_moves.specs.Keeps.{keeps_in};
 ghost use Rattle.afr_discipline.specs.Stands.{heal_part_of, seen_as, step_of, views_of};
 
 use crate::areas::{is_same_area, is_same_kind, is_the_area};
-use crate::heal_sets::{is_locked, is_over, is_turn};
+use crate::heal_sets::{are_asked, is_locked, is_over, is_turn, locked};
 use crate::heals::{has_read, has_settled, is_going_on, is_onward, len_at};
-use crate::of_five::all_of;
 use crate::outside::is_busy;
 use crate::register::{HealPart, Register, Step};
 use crate::steps::{is_same_step, rank};
@@ -102,13 +101,6 @@ fn is_later_lock(register: &Register, s: BrickId, area: Area) -> bool
         && is_next_part(register, s, area)
 }
 
-fn is_left_out(register: &Register, x: BrickId) -> bool
-    requires { x.0 < 5 }
-    ensures { result ≡ (not (locks_at (seen_as register.now) (heal_part_of register.now.part) x.0) || member register.now.asked x.0) }
-{
-    !is_locked(register, x) || register.asked.has(x)
-}
-
 /// The lowest brick of this part's Work locks that was not asked.
 fn is_lowest_unlocked(register: &Register, b: BrickId) -> bool
     requires { b.0 < 5 }
@@ -121,21 +113,7 @@ pub(crate) fn are_left_out(register: &Register, upto: u8) -> bool
     requires { upto ≤ 5 }
     ensures { result ≡ over upto (locks_at (seen_as register.now) (heal_part_of register.now.part)) (member register.now.asked) }
 {
-    all_of(
-        upto,
-        is_left_out(register, BrickId(0)),
-        is_left_out(register, BrickId(1)),
-        is_left_out(register, BrickId(2)),
-        is_left_out(register, BrickId(3)),
-        is_left_out(register, BrickId(4)),
-    )
-}
-
-fn is_missing(set: BrickSet, x: BrickId) -> bool
-    requires { x.0 < 5 }
-    ensures { result ≡ (not (member set x.0) || false) }
-{
-    !set.has(x)
+    are_asked(upto, locked(register), register.asked)
 }
 
 /// The lowest brick of the set.
@@ -150,14 +128,7 @@ fn are_missing(set: BrickSet, upto: u8) -> bool
     requires { upto ≤ 5 }
     ensures { result ≡ over upto (member set) empty }
 {
-    all_of(
-        upto,
-        is_missing(set, BrickId(0)),
-        is_missing(set, BrickId(1)),
-        is_missing(set, BrickId(2)),
-        is_missing(set, BrickId(3)),
-        is_missing(set, BrickId(4)),
-    )
+    are_asked(upto, set, BrickSet::none())
 }
 
 fn is_finishing(part: HealPart) -> bool

@@ -10,7 +10,7 @@ use crate::heal_sets::is_turn;
 use crate::heals::{has_mended, is_changed, is_onward, is_raised};
 use crate::of_five::all_of;
 use crate::register::{Register, Step};
-use crate::views::holds;
+use crate::views::all_hold;
 use afr_base::{BrickId, Gfid, Kind, Marks};
 use afr_lines::Request;
 use afr_object::View;
@@ -48,22 +48,6 @@ fn are_taken(register: &Register, s: BrickId, kind: Kind, less: &Marks, view: &V
     )
 }
 
-/// Whether each brick of the volume has a copy, by the first looks.
-pub(crate) fn all_hold(register: &Register) -> bool
-    requires { register.now.shape.n ≤ 5 }
-    ensures { result ≡ all register.now.shape.n (holder (views_of register.now.seen)) }
-{
-    let seen = &register.seen;
-    all_of(
-        register.shape.n,
-        holds(seen, BrickId(0)),
-        holds(seen, BrickId(1)),
-        holds(seen, BrickId(2)),
-        holds(seen, BrickId(3)),
-        holds(seen, BrickId(4)),
-    )
-}
-
 fn one_more(raised: bool) -> u64
     ensures { result ≡ (if raised then 1 else 0) }
 {
@@ -84,7 +68,7 @@ fn is_cleaned(
     ensures { result ≡ (less.now.dirty == (if all register.now.shape.n (holder (views_of register.now.seen)) then (view_marks view.now kind).dirty + (if raised (keeps_in register.now.shape) (seen_as register.now) s.0 kind b.0 then 1 else 0) else 0)) }
 {
     let shown = view.marks.of(kind);
-    if all_hold(register) {
+    if all_hold(register.shape.n, &register.seen) {
         let more = one_more(is_raised(register, s, kind, b));
         u64::from(less.dirty) == u64::from(shown.dirty) + more
     } else {

@@ -4,9 +4,9 @@ ghost use Rattle.afr_model_moves.specs.Keeps.{keeps_in};
 ghost use Rattle.afr_discipline.specs.Stands.{seen_as, views_of};
 ghost use Rattle.afr_discipline.specs.Turns.{dirty_less, less_in, marks_in, pending_less};
 
-use crate::heal_numbers::all_hold;
 use crate::heals::{is_changed, is_raised};
 use crate::register::Register;
+use crate::views::all_hold;
 use afr_base::{BrickId, Kind, Marks};
 use afr_object::View;
 
@@ -27,7 +27,7 @@ fn dirty_owed(register: &Register, s: BrickId, b: BrickId, kind: Kind, shown: &M
     requires room { shown.now.dirty < 4294967295 }
     ensures { result ≡ dirty_less register.now.shape.n (keeps_in register.now.shape) (seen_as register.now) s.0 b.0 kind shown.now }
 {
-    if all_hold(register) {
+    if all_hold(register.shape.n, &register.seen) {
         if is_raised(register, s, kind, b) {
             shown.dirty + 1
         } else {

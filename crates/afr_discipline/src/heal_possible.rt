@@ -7,8 +7,7 @@ ghost use Rattle.afr_discipline.specs.Alike.{IsAlike};
 ghost use Rattle.afr_discipline.specs.Notes.{IsAllowed, possible_now, still_possible};
 ghost use Rattle.afr_discipline.specs.Stands.{seen_as};
 
-use crate::heal_asks::{gives_back, is_allowed_by, may_heal};
-use crate::of_five::picked;
+use crate::heal_asks::{each_possible, gives_back, may_heal};
 use crate::register::{Register, Step};
 use crate::steps::rank;
 use afr_base::{BrickId, BrickSet};
@@ -46,27 +45,12 @@ fn alike_possible(register: &Register, b: BrickId, request: &Request) -> BrickSe
     ensures { result ≡ still_possible register.now b.0 request.now }
 {
     let may = may_heal(register, BrickId(0), b, request);
-    picked(
+    BrickSet::of_five(
         register.possible.has(BrickId(0)) && may,
         register.possible.has(BrickId(1)) && may,
         register.possible.has(BrickId(2)) && may,
         register.possible.has(BrickId(3)) && may,
         register.possible.has(BrickId(4)) && may,
-    )
-}
-
-/// The copies that may still be the source, one by one.
-fn each_possible(register: &Register, b: BrickId, request: &Request) -> BrickSet
-    requires few { register.now.shape.n ≤ 5 }
-    requires small { b.0 < 5 }
-    ensures { result ≡ still_possible register.now b.0 request.now }
-{
-    picked(
-        is_allowed_by(register, BrickId(0), b, request),
-        is_allowed_by(register, BrickId(1), b, request),
-        is_allowed_by(register, BrickId(2), b, request),
-        is_allowed_by(register, BrickId(3), b, request),
-        is_allowed_by(register, BrickId(4), b, request),
     )
 }
 

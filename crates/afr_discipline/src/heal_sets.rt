@@ -10,11 +10,11 @@ ghost use Rattle.afr_discipline.specs.Left.{AreLeft};
 ghost use Rattle.afr_discipline.specs.Stands.{heal_part_of, seen_as, step_of, views_of};
 
 use crate::note_steps::asked_at;
-use crate::of_five::picked;
 use crate::register::{HealPart, Register, Step};
 use crate::steps::rank;
-use crate::views::{has_some, holds, is_good, keeps};
+use crate::views::has_some;
 use afr_base::{BrickId, BrickSet, Kind};
+use afr_choice::{good_shown, holds, keeps, shown};
 
 /// A holder by the first looks that is neither the source nor an arbiter.
 pub(crate) fn is_sink(register: &Register, s: BrickId, x: BrickId) -> bool
@@ -36,39 +36,25 @@ pub(crate) fn is_other(register: &Register, s: BrickId, x: BrickId) -> bool
 fn holders(register: &Register) -> BrickSet
     ensures { (x : ℕ) → x < 5 → member result x ≡ holder (views_of register.now.seen) x }
 {
-    picked(
-        holds(&register.seen, BrickId(0)),
-        holds(&register.seen, BrickId(1)),
-        holds(&register.seen, BrickId(2)),
-        holds(&register.seen, BrickId(3)),
-        holds(&register.seen, BrickId(4)),
-    )
+    shown(&register.seen)
 }
 
 /// Those of them that are not the source.
 fn others(register: &Register, s: BrickId) -> BrickSet
     ensures { (x : ℕ) → x < 5 → member result x ≡ other (seen_as register.now) s.0 x }
 {
-    picked(
-        is_other(register, s, BrickId(0)),
-        is_other(register, s, BrickId(1)),
-        is_other(register, s, BrickId(2)),
-        is_other(register, s, BrickId(3)),
-        is_other(register, s, BrickId(4)),
-    )
+    holders(register).minus(only(s))
 }
 
 /// Those of them that keep bytes.
 fn sinks(register: &Register, s: BrickId) -> BrickSet
     ensures { (x : ℕ) → x < 5 → member result x ≡ sink (keeps_in register.now.shape) (seen_as register.now) s.0 x }
 {
-    picked(
-        is_sink(register, s, BrickId(0)),
-        is_sink(register, s, BrickId(1)),
-        is_sink(register, s, BrickId(2)),
-        is_sink(register, s, BrickId(3)),
-        is_sink(register, s, BrickId(4)),
-    )
+    let others = others(register, s);
+    if register.shape.arbiter {
+        return others.without(BrickId(2));
+    }
+    others
 }
 
 /// The copies of names that are good by the first looks.
@@ -76,21 +62,15 @@ fn good_names(register: &Register) -> BrickSet
     requires { register.now.shape.n ≤ 5 }
     ensures { (x : ℕ) → x < 5 → member result x ≡ good register.now.shape.n (keeps_in register.now.shape) Kind.Names (views_of register.now.seen) x }
 {
-    picked(
-        is_good(register.shape, &register.seen, Kind::Names, BrickId(0)),
-        is_good(register.shape, &register.seen, Kind::Names, BrickId(1)),
-        is_good(register.shape, &register.seen, Kind::Names, BrickId(2)),
-        is_good(register.shape, &register.seen, Kind::Names, BrickId(3)),
-        is_good(register.shape, &register.seen, Kind::Names, BrickId(4)),
-    )
+    good_shown(register.shape, &register.seen, Kind::Names)
 }
 
 /// The one brick.
-#[tactic(auto, using(crate::proofs::SetsOfFive::member_picked))]
+#[tactic(auto, using(afr_base::proofs::OfFive::member_picked))]
 fn only(s: BrickId) -> BrickSet
     ensures { (x : ℕ) → x < 5 → member result x ≡ is_only s.0 x }
 {
-    picked(0 == s.0, 1 == s.0, 2 == s.0, 3 == s.0, 4 == s.0)
+    BrickSet::of_five(0 == s.0, 1 == s.0, 2 == s.0, 3 == s.0, 4 == s.0)
 }
 
 fn read(register: &Register, s: BrickId) -> BrickSet
@@ -152,7 +132,8 @@ pub(crate) fn is_locked(register: &Register, x: BrickId) -> bool
     }
 }
 
-fn locked(register: &Register) -> BrickSet
+/// The bricks that are asked for this part's Work locks.
+pub(crate) fn locked(register: &Register) -> BrickSet
     ensures { (x : ℕ) → x < 5 → member result x ≡ locks_at (seen_as register.now) (heal_part_of register.now.part) x }
 {
     match register.part {
@@ -207,6 +188,14 @@ pub(crate) fn has_passed(register: &Register, s: BrickId, step: Step) -> bool
     ensures { result ≡ passed register.now.shape.n (keeps_in register.now.shape) (seen_as register.now) s.0 (step_of step) }
 {
     rank(step) < rank(register.step) || is_over(register, s, step, register.shape.n)
+}
+
+/// Whether each brick of a set below a number was asked.
+pub fn are_asked(upto: u8, set: BrickSet, asked: BrickSet) -> bool
+    requires { upto ≤ 5 }
+    ensures { result ≡ over upto (member set) (member asked) }
+{
+    !has_some(upto, set.minus(asked))
 }
 
 fn is_lowest(set: BrickSet, b: BrickId) -> bool

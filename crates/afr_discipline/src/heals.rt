@@ -9,12 +9,12 @@ ghost use Rattle.afr_discipline.specs.Stands.{heal_part_of, seen_as, views_of};
 
 use crate::areas::is_same_kind;
 use crate::heal_sets::{has_passed, is_other, is_sink};
-use crate::of_five::{all_of, any_of};
+use crate::of_five::all_of;
 use crate::register::{HealPart, Register, Step};
 use crate::steps::rank;
-use crate::views::{holds, is_good, is_unaccused, marks_shown, most_hold};
-use afr_base::{BrickId, Gfid, Kind, Marks};
-use afr_choice::Looked;
+use crate::views::{has_some, most_hold};
+use afr_base::{BrickId, BrickSet, Gfid, Kind, Marks};
+use afr_choice::{Looked, holds, is_good, is_unaccused, marks_shown};
 use afr_object::View;
 
 fn is_numbered(marks: &Marks) -> bool
@@ -33,14 +33,14 @@ fn is_pending(marks: &Marks, c: BrickId) -> bool
 fn accuses_some(marks: &Marks) -> bool
     ensures { result ≡ any 5 (λ c. not (slice_index marks.now.pending c == 0)) }
 {
-    any_of(
-        5,
+    let accused = BrickSet::of_five(
         is_pending(marks, BrickId(0)),
         is_pending(marks, BrickId(1)),
         is_pending(marks, BrickId(2)),
         is_pending(marks, BrickId(3)),
         is_pending(marks, BrickId(4)),
-    )
+    );
+    has_some(5, accused)
 }
 
 fn shows(view: &Option<View>, kind: Kind) -> bool

@@ -27,13 +27,13 @@ mod steps;
 mod views;
 
 pub use heal_owed::owed_at;
+pub use heal_sets::are_asked;
 pub use heal_turns::{first_candidate, first_of, turn_of};
 pub use heals::len_at;
 pub use laws::{each_move_is_decided, each_note_stands, has_five};
 pub use moves::may;
 pub use note_steps::asked_at;
 pub use notes::{note, note_allowed};
-pub use of_five::{all_of, lowest_of};
 pub use of_heals::{begun, healed, is_heal, present_part, present_step};
 pub use register::{HealPart, Move, Register, Step, fresh, renew};
 pub use views::suffices;

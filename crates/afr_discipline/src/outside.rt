@@ -14,8 +14,9 @@ use crate::areas::{
 use crate::of_five::all_of;
 use crate::register::{Move, Register, Step};
 use crate::steps::{is_once, is_same_step};
-use crate::views::{fits_all, has_some, holders_suffice, holds, suffices};
+use crate::views::{fits_all, has_some, holders_suffice, suffices};
 use afr_base::{BrickId, BrickSet, Gfid, Kind};
+use afr_choice::holds;
 use afr_lines::{Area, Domain, Request};
 use afr_object::Change;
 

@@ -1,9 +1,12 @@
 -- The copies that a rule chooses from, and the bricks that show that a source moved.
-use Rattle.std.proofs.Common.{zero, suc, slice_get, ◌||◌, ◌≡◌, ℕ, ◌<◌, ◌≤◌, ◌==◌, ◌&&◌, ◌∙◌, not, nat_lt, Bool, true, false, List, [], ◌∷◌, refl, sym, ap, arith, filter, map, length, subst, Option, None, Some}
+use Rattle.std.proofs.Common.{zero, suc, slice_get, ◌||◌, ◌≡◌, ℕ, ◌<◌, ◌≤◌, ◌==◌, ◌&&◌, ◌∙◌, not, nat_lt, Bool, true, false, List, [], ◌∷◌, refl, sym, ap, arith, filter, map, length, subst, Option, None, Some, if◌then◌else◌}
 use Rattle.std.proofs.lemmas.Bool.Decides.{nat_tests}
 use Rattle.std.proofs.lemmas.Bool.{eqb-true}
 use Rattle.std.specs.Option.{unwrap_or}
-use Rattle.afr_base.specs.Bricks.{all_five, below, from_table, member, minus, same}
+use Rattle.afr_base.proofs.OfFive.{chosen_same, member_chosen}
+use Rattle.afr_base.specs.Bricks.{all_five, below, common, from_table, member, minus}
+use Rattle.afr_base.specs.Five.{first_in}
+use Rattle.afr_base.specs.SetLemmas.{member_minus}
 use Rattle.afr_base.specs.declared.ids.BrickId.{BrickId}
 use Rattle.afr_base.specs.declared.ids.Kind.{Kind}
 use Rattle.afr_base.specs.declared.ids.Kind.TheVariants as kind_of
@@ -52,6 +55,51 @@ below_is n = refl
 
 pub choices_are : (copy : ℕ → Candidate) (n : ℕ) (p q : ℕ → Bool) → ((x : ℕ) → x < n → q x ≡ p x) → map copy (filter (λ x. nat_lt x n && p x) all_five) ≡ map copy (filter q (below n))
 choices_are copy n p q h = ap (map copy) (choose_same n p q h all_five ∙ ap (filter q) (below_is n))
+
+-- what is in a list and not in another
+minus_is : (t s : List ℕ) → minus s t ≡ filter (λ x. not (member t x)) s
+minus_is t [] = refl
+minus_is t (x ∷ xs) = go (member t x) (minus_is t xs)
+  where
+    go : (m : Bool) → minus xs t ≡ filter (λ y. not (member t y)) xs → (if m then minus xs t else x ∷ minus xs t) ≡ (if not m then x ∷ filter (λ y. not (member t y)) xs else filter (λ y. not (member t y)) xs)
+    go true ih = ih
+    go false ih = ap (λ (ys : List ℕ). x ∷ ys) ih
+
+filter_both : (p r : ℕ → Bool) (s : List ℕ) → filter r (filter p s) ≡ filter (λ x. p x && r x) s
+filter_both p r [] = refl
+filter_both p r (x ∷ xs) = go (p x) refl (r x) refl (filter_both p r xs)
+  where
+    go : (a : Bool) → p x ≡ a → (b : Bool) → r x ≡ b → filter r (filter p xs) ≡ filter (λ x. p x && r x) xs → filter r (filter p (x ∷ xs)) ≡ filter (λ x. p x && r x) (x ∷ xs)
+    go true e true f ih = rw (e, f) (ap (λ (ys : List ℕ). x ∷ ys) ih)
+    go true e false f ih = rw (e, f) ih
+    go false e b f ih = rw e ih
+
+-- the bricks below n of those that pass
+pub those_below : (n : ℕ) (p : ℕ → Bool) → common (filter p all_five) (below n) ≡ filter (λ x. nat_lt x n && p x) all_five
+those_below n p =
+    minus_is (minus chosen (below n)) chosen
+    ∙ filter_both p (λ x. not (member (minus chosen (below n)) x)) all_five
+    ∙ chosen_same (λ x. p x && not (member (minus chosen (below n)) x)) (λ x. nat_lt x n && p x) (λ x l. ap (λ (m : Bool). p x && not m) (outside x l) ∙ twice (nat_lt x n) (p x))
+  where
+    chosen : List ℕ
+    chosen = filter p all_five
+
+    low : (x : ℕ) → x < 5 → member (below n) x ≡ nat_lt x n
+    low x l = ap (λ (s : List ℕ). member s x) (sym (below_is n)) ∙ member_chosen (λ b. nat_lt b n) x l
+
+    outside : (x : ℕ) → x < 5 → member (minus chosen (below n)) x ≡ (not (nat_lt x n) && p x)
+    outside x l = member_minus chosen (below n) x ∙ (λ i. not (low x l i) && member_chosen p x l i)
+
+    twice : (a b : Bool) → (b && not (not a && b)) ≡ (a && b)
+    twice true true = refl
+    twice true false = refl
+    twice false true = refl
+    twice false false = refl
+
+-- the first of a set
+pub first_is : (s : List ℕ) → first_in s ≡ brick_of (slice_get s 0)
+first_is [] = refl
+first_is (x ∷ xs) = refl
 
 -- where the copies that may be the source are the good ones, they are the candidates
 pub candidates_are : (p : Register) (kind : Kind) (copies : List Candidate) → HasSource kind p

@@ -1,10 +1,9 @@
 //! What an answer leaves of a heal: its register, and its source once the first looks are over.
 ghost use Rattle.std.specs.Prelude.{◌≡◌, ◌+◌, ◌^◌, ◌<◌, ◌≤◌, ◌||◌, false, nat_le, not, true};
-ghost use Rattle.afr_base.specs.Bricks.{member};
 ghost use Rattle.afr_discipline.specs.Notes.{IsAllowed, noted_ask};
 ghost use Rattle.afr_discipline.specs.Stands.{heal_part_of, seen_as, step_of};
 ghost use Rattle.afr_model_moves.specs.Keeps.{keeps_in};
-ghost use Rattle.afr_model_moves.specs.Register.{is_opening, over, rank, span};
+ghost use Rattle.afr_model_moves.specs.Register.{is_opening, rank, span};
 ghost use Rattle.afr_model_moves.specs.Steps.{looks_over};
 ghost use Rattle.afr_lines.specs.Told.{told_by};
 ghost use Rattle.afr_rule.specs.Choosing.{IsRule};
@@ -12,9 +11,9 @@ ghost use Rattle.afr_heal_machine.specs.Healing.{IsChosen};
 ghost use Rattle.afr_heal_machine.specs.Source.{HasSource, is_found};
 
 use crate::choosing::source_found;
-use afr_base::{BrickId, BrickSet, Kind};
+use afr_base::{BrickId, Kind};
 use afr_discipline::{
-    HealPart, Register, Step, all_of, asked_at, note_allowed, present_part, present_step,
+    HealPart, Register, Step, are_asked, asked_at, note_allowed, present_part, present_step,
 };
 use afr_lines::{Answer, Request, Told};
 use afr_rule::{Candidate, SourceRule};
@@ -58,28 +57,6 @@ pub(crate) fn note_answer(
     note_allowed(register, brick, request, told, at);
 }
 
-fn is_past(set: BrickSet, asked: BrickSet, x: BrickId) -> bool
-    requires { x.0 < 5 }
-    ensures { result ≡ (not (member set x.0) || member asked x.0) }
-{
-    !set.has(x) || asked.has(x)
-}
-
-/// Whether each brick of the set was asked.
-fn is_over(n: u8, set: BrickSet, asked: BrickSet) -> bool
-    requires { n ≤ 5 }
-    ensures { result ≡ over n (member set) (member asked) }
-{
-    all_of(
-        n,
-        is_past(set, asked, BrickId(0)),
-        is_past(set, asked, BrickId(1)),
-        is_past(set, asked, BrickId(2)),
-        is_past(set, asked, BrickId(3)),
-        is_past(set, asked, BrickId(4)),
-    )
-}
-
 /// Whether the first looks are over, and let the heal go on.
 fn is_found(register: &Register) -> bool
     requires { register.now.shape.n ≤ 5 }
@@ -89,7 +66,7 @@ fn is_found(register: &Register) -> bool
         return false;
     }
     match (present_step(register), present_part(register)) {
-        (Step::Looks, HealPart::Opening) => is_over(
+        (Step::Looks, HealPart::Opening) => are_asked(
             register.shape.n,
             register.held,
             asked_at(register, Step::Looks),
@@ -115,7 +92,7 @@ pub(crate) fn has_looked(register: &Register) -> bool
     ensures { result ≡ (not (is_opening (heal_part_of register.now.part)) || looks_over register.now.shape.n (keeps_in register.now.shape) (seen_as register.now) 0) }
 {
     match (present_part(register), present_step(register)) {
-        (HealPart::Opening, Step::Looks) => is_over(
+        (HealPart::Opening, Step::Looks) => are_asked(
             register.shape.n,
             register.held,
             asked_at(register, Step::Looks),

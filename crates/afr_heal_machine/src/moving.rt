@@ -2,50 +2,24 @@
 ghost use Rattle.std.specs.Prelude.{◌≡◌, ℕ, Option, [], ◌∷◌, ◌<◌, ◌&&◌, ◌==◌, not};
 ghost use Rattle.afr_base.specs.Bricks.{minus};
 ghost use Rattle.afr_choice.specs.Looks.{view_at};
-ghost use Rattle.afr_choice.specs.Verdict.{accuses_at, copies_of, is_copy, shown_missed};
+ghost use Rattle.afr_choice.specs.Verdict.{copies_of, is_copy};
 ghost use Rattle.afr_discipline.specs.Stands.{heal_part_of};
 ghost use Rattle.afr_discipline.specs.Turns.{brick_of};
 ghost use Rattle.afr_model.specs.Moved.{accuser, len_in, or_brick, unlike};
 ghost use Rattle.afr_heal_machine.specs.Outcome.{by_mover, mover, unlike_in};
 
-use crate::copies::has_copy;
 use crate::outcome::HealOutcome;
-use afr_base::{BrickId, Kind};
-use afr_choice::Looked;
-use afr_discipline::{HealPart, Register, lowest_of, present_part};
-use afr_object::View;
+use afr_base::{BrickId, BrickSet, Kind};
+use afr_choice::{Looked, accusers, has_copy};
+use afr_discipline::{HealPart, Register, present_part};
 use afr_rule::len_at;
-
-fn shows_missed(view: &Option<View>, kind: Kind, c: BrickId) -> bool
-    requires { c.0 < 5 }
-    ensures { result ≡ shown_missed kind c.0 view.now }
-{
-    match view {
-        Some(view) => view.marks.of(kind).accuses(c),
-        None => false,
-    }
-}
-
-fn blames(looked: &Looked, kind: Kind, x: BrickId, c: BrickId) -> bool
-    requires by { x.0 < 5 }
-    requires whom { c.0 < 5 }
-    ensures { result ≡ accuses_at kind x.0 c.0 looked.now }
-{
-    looked.reached.has(x) && shows_missed(&looked.views[x.0 as usize], kind, c)
-}
 
 /// The lowest brick whose later view accuses the source.
 fn lowest_accuser(kind: Kind, source: BrickId, looked: &Looked) -> Option<BrickId>
     requires { source.0 < 5 }
     ensures { result ≡ brick_of (accuser kind source.0 looked.now) }
 {
-    lowest_of(
-        blames(looked, kind, BrickId(0), source),
-        blames(looked, kind, BrickId(1), source),
-        blames(looked, kind, BrickId(2), source),
-        blames(looked, kind, BrickId(3), source),
-        blames(looked, kind, BrickId(4), source),
-    )
+    accusers(looked, kind, source).first()
 }
 
 /// Whether the brick is a sink by the first looks, and the later ones show another length than at the source.
@@ -64,13 +38,14 @@ fn lowest_unlike(register: &Register, kind: Kind, source: BrickId) -> Option<Bri
     requires { source.0 < 5 }
     ensures { result ≡ brick_of (unlike source.0 (minus (copies_of register.now.shape register.now.seen kind) (source.0 ∷ [])) register.now.looked) }
 {
-    lowest_of(
+    let sinks = BrickSet::of_five(
         is_unlike(register, kind, source, BrickId(0)),
         is_unlike(register, kind, source, BrickId(1)),
         is_unlike(register, kind, source, BrickId(2)),
         is_unlike(register, kind, source, BrickId(3)),
         is_unlike(register, kind, source, BrickId(4)),
-    )
+    );
+    sinks.first()
 }
 
 /// At the finish, the lowest sink of another length.

@@ -1,21 +1,22 @@
 -- The first looks of a heal by its register and by the model's lists: the holders, the copies, and that the heal goes on.
-use Rattle.std.proofs.Common.{◌≡◌, ℕ, zero, suc, ◌<◌, ◌≤◌, ◌&&◌, ◌||◌, not, ◌==◌, nat_lt, Bool, true, false, List, [], ◌∷◌, refl, sym, ap, ◌∙◌, subst, arith, Option, None, Some, is_some, filter, if◌then◌else◌, slice_index}
+use Rattle.std.proofs.Common.{◌≡◌, ℕ, zero, suc, ◌<◌, ◌≤◌, ◌&&◌, ◌||◌, not, ◌==◌, nat_lt, Bool, true, false, List, [], ◌∷◌, refl, sym, ap, ◌∙◌, subst, arith, Option, None, Some, filter, if◌then◌else◌, slice_index}
 use Rattle.std.proofs.lemmas.Bool.Decides.{nat_tests}
-use Rattle.std.specs.List.{list_all, list_any}
+use Rattle.std.specs.List.{list_all}
 use Rattle.std.specs.Prelude.{slice_get}
 use Rattle.afr_base.specs.Bricks.{all_five, below, is_nothing, lowest, member, minus}
 use Rattle.afr_base.specs.Majority.{is_majority, is_most}
 use Rattle.afr_base.specs.Marks.{is_zero_marks, marks_of}
 use Rattle.afr_base.specs.SetLemmas.{below_all, lowest_in, member_minus, most_same, some_member}
 use Rattle.afr_base.specs.declared.ids.Kind.{Kind}
-use Rattle.afr_base.specs.declared.ids.Kind.TheVariants.{Attrs, Bytes, Names}
 use Rattle.afr_base.specs.declared.ids.Shape.{Shape}
 use Rattle.afr_base.specs.declared.marks.Marks.{Marks}
+use Rattle.afr_base.specs.Keeping.{keeps}
+use Rattle.afr_choice.proofs.Agreement.{IsAnswered, accuses_same, good_tells, holder_same, holders_tell}
 use Rattle.afr_choice.specs.Looks.{view_at}
-use Rattle.afr_choice.specs.Verdict.{accuses_at, copies_of, good_copies, holders_of, is_accused, is_copy, is_holder, shown_missed}
-use Rattle.afr_choice.specs.VerdictLemmas.{copies_are_holders, holders_are_reached, member_copies, member_good, member_holders}
+use Rattle.afr_choice.specs.Verdict.{accuses_at, copies_of, good_copies, holders_of, is_holder, shown_missed}
+use Rattle.afr_choice.specs.VerdictLemmas.{copies_are_holders, holders_are_reached, member_copies}
 use Rattle.afr_choice.specs.declared.looked.Looked.{Looked}
-use Rattle.afr_heal.proofs.Parts.{any_no, both, deny, denied, not_both, pair}
+use Rattle.afr_heal.proofs.Parts.{any_no, both, denied, not_both, pair}
 use Rattle.afr_law_heal.specs.Stages.{IsReached}
 use Rattle.afr_lines.specs.declared.reply.HealReply.{HealReply}
 use Rattle.afr_lines.specs.declared.reply.HealReply.TheVariants as healed
@@ -84,9 +85,6 @@ not_all p (y ∷ ys) x m h = go (y == x) refl m (p y) refl (not_all p ys x)
     go true g m true i rest = let is : y ≡ x = grind (arith, nat_tests, g) in absurd (not_both (p y) i (subst (λ (z : ℕ). p z ≡ false) (sym is) h))
     go false g m true i rest = rest m h
 
-any_five_none : (p : ℕ → Bool) → ((x : ℕ) → x < 5 → p x ≡ false) → list_any p all_five ≡ false
-any_five_none p h = rw (h 0 (omega arith), h 1 (omega arith), h 2 (omega arith), h 3 (omega arith), h 4 (omega arith)) refl
-
 -- a test that all bricks below n pass
 pub all_at : (n : ℕ) (p : ℕ → Bool) → all n p ≡ true → (x : ℕ) → x < n → p x ≡ true
 all_at zero p h x l = absurd (omega (arith, l))
@@ -128,16 +126,6 @@ shown_number : (kind : Kind) (view : Option View) → shows_number kind view ≡
 shown_number kind None h = absurd (cc h)
 shown_number kind (Some view) h = not_zero (marks_of kind view.marks) h
 
-zero_of : (k : ℕ) → not (not (k == 0)) ≡ true → nat_lt 0 k ≡ false
-zero_of k h = grind (arith, nat_tests, h)
-
--- a view that accuses nobody by the one test does so by the other
-pub shows_none : (kind : Kind) (s : ℕ) (view : Option View) → not (accuses kind view s) ≡ true → shown_missed kind s view ≡ false
-shows_none kind s None h = refl
-shows_none Bytes s (Some view) h = zero_of _ h
-shows_none Attrs s (Some view) h = zero_of _ h
-shows_none Names s (Some view) h = zero_of _ h
-
 -- who is not accused by the views below n isn't by looks that only these answered
 pub none_accuses : (n : ℕ) (kind : Kind) (looked : Looked) (s : ℕ) → ((x : ℕ) → member looked.reached x ≡ true → x < n) → unaccused n kind (λ x. view_at x looked) s ≡ true
     → (x : ℕ) → accuses_at kind x s looked ≡ false
@@ -145,21 +133,16 @@ none_accuses n kind looked s low h x = go (member looked.reached x) refl
   where
     go : (m : Bool) → member looked.reached x ≡ m → (m && shown_missed kind s (view_at x looked)) ≡ false
     go false e = refl
-    go true e = shows_none kind s (view_at x looked) (all_at n (λ x. not (accuses kind (view_at x looked) s)) h x (low x e))
+    go true e = accuses_same kind s (view_at x looked) ∙ denied (accuses kind (view_at x looked) s) (all_at n (λ x. not (accuses kind (view_at x looked) s)) h x (low x e))
 
 -- ---- the first looks
 module _ (shape : Shape) (seen : Looked) (few : shape.n ≤ 5) (low : (x : ℕ) → member seen.reached x ≡ true → x < shape.n) (answered : IsReached seen) where
-  -- who shows a view is a holder
-  pub holds_there : (x : ℕ) → is_holder seen x ≡ holder (λ x. view_at x seen) x
-  holds_there x = go (view_at x seen) (answered x)
-    where
-      go : (v : Option View) → (is_some v ≡ true → member seen.reached x ≡ true) → (member seen.reached x && is_some v) ≡ not (is_none v)
-      go None f = and_false (member seen.reached x)
-      go (Some v) f = rw (f refl) refl
+  here : IsAnswered shape.n seen
+  here = record { low = low; shown = answered }
 
   -- the holders, as a list and as a test
   pub same_holder : (x : ℕ) → x < shape.n → member (holders_of seen) x ≡ holder (λ x. view_at x seen) x
-  same_holder x l = member_holders seen x (omega (arith, l, few)) ∙ holds_there x
+  same_holder x l = holders_tell shape.n seen few here x (omega (arith, l, few))
 
   pub holder_low : (x : ℕ) → member (holders_of seen) x ≡ true → x < shape.n
   holder_low x m = low x (holders_are_reached seen x m)
@@ -168,20 +151,16 @@ module _ (shape : Shape) (seen : Looked) (few : shape.n ≤ 5) (low : (x : ℕ) 
   pub same_copy : (kind : Kind) (x : ℕ) → x < shape.n → member (copies_of shape seen kind) x ≡ (holder (λ x. view_at x seen) x && keeps_in shape x kind)
   same_copy kind x l =
       let small : x < 5 = omega (arith, l, few) in
-      let five : nat_lt x 5 ≡ true = grind (arith, nat_tests, small) in
-      member_copies shape seen kind x small ∙ rw (holds_there x, five) refl
+      let kept : keeps shape kind x ≡ keeps_in shape x kind = (let five : nat_lt x 5 ≡ true = grind (arith, nat_tests, small) in ap (λ (f : Bool). f && keeps shape kind x) (sym five)) in
+      let held : is_holder seen x ≡ holder (λ x. view_at x seen) x = holder_same shape.n seen few here x in
+      member_copies shape seen kind x small ∙ (λ i. held i && kept i)
 
   pub copy_low : (kind : Kind) (x : ℕ) → member (copies_of shape seen kind) x ≡ true → x < shape.n
   copy_low kind x m = holder_low x (copies_are_holders shape seen kind x m)
 
   -- a good copy by the register is one of the model's
   pub good_there : (kind : Kind) (s : ℕ) → s < shape.n → good shape.n (keeps_in shape) kind (λ x. view_at x seen) s ≡ true → member (good_copies shape seen kind) s ≡ true
-  good_there kind s l h =
-      let two = both (holder (λ x. view_at x seen) s && keeps_in shape s kind) (unaccused shape.n kind (λ x. view_at x seen) s) h in
-      let small : s < 5 = omega (arith, l, few) in
-      let copy : is_copy shape seen kind s ≡ true = sym (member_copies shape seen kind s small) ∙ same_copy kind s l ∙ two.0 in
-      let free : is_accused kind seen s ≡ false = any_five_none (λ x. accuses_at kind x s seen) (λ x m. none_accuses shape.n kind seen s low two.1 x) in
-      member_good shape seen kind s small ∙ pair (is_copy shape seen kind s) (not (is_accused kind seen s)) copy (deny _ free)
+  good_there kind s l h = good_tells shape seen kind few here s (omega (arith, l, few)) ∙ h
 
   -- some number is shown
   pub not_clean : (kind : Kind) → any shape.n (λ x. shows_number kind (view_at x seen)) ≡ true → is_clean kind seen ≡ false

@@ -1,9 +1,8 @@
 -- A heal that its first looks end has its reply by what they show.
-use Rattle.std.proofs.Common.{◌≡◌, ℕ, ◌<◌, ◌≤◌, ◌==◌, ◌&&◌, ◌||◌, not, nat_lt, Bool, true, false, List, [], ◌∷◌, Option, Some, None, length, is_some, refl, sym, ◌∙◌, ap, subst, arith, if◌then◌else◌}
+use Rattle.std.proofs.Common.{◌≡◌, ℕ, ◌<◌, ◌≤◌, ◌==◌, ◌&&◌, ◌||◌, not, Bool, true, false, List, [], ◌∷◌, Option, Some, None, length, is_some, refl, sym, ◌∙◌, ap, subst, arith, if◌then◌else◌}
 use Rattle.std.proofs.lemmas.Bool.Decides.{nat_tests}
 use Rattle.std.specs.List.{list_all}
 use Rattle.afr_base.specs.Bricks.{below, lowest, member, minus, is_nothing}
-use Rattle.afr_base.specs.Keeping.{keeps}
 use Rattle.afr_base.specs.Majority.{is_majority}
 use Rattle.afr_base.specs.Marks.{is_zero_marks, marks_of}
 use Rattle.afr_base.specs.SetLemmas.{lowest_in}
@@ -12,9 +11,10 @@ use Rattle.afr_base.specs.declared.ids.Gfid.{Gfid}
 use Rattle.afr_base.specs.declared.ids.Kind.{Kind}
 use Rattle.afr_base.specs.declared.ids.Kind.TheVariants.{Attrs, Bytes, Names}
 use Rattle.afr_base.specs.declared.ids.Shape.{Shape}
+use Rattle.afr_choice.proofs.Agreement.{IsAnswered, good_low, good_tells, holders_tell}
 use Rattle.afr_choice.specs.Looks.{view_at}
-use Rattle.afr_choice.specs.Verdict.{accuses_at, good_copies, holders_of, is_holder, shown_missed}
-use Rattle.afr_choice.specs.VerdictLemmas.{good_are_copies, good_are_holders, good_below, holders_below, member_copies, member_holders, nobody_accuses}
+use Rattle.afr_choice.specs.Verdict.{good_copies, holders_of}
+use Rattle.afr_choice.specs.VerdictLemmas.{good_below, holders_below, member_holders}
 use Rattle.afr_choice.specs.declared.looked.Looked.{Looked}
 use Rattle.afr_discipline.specs.Turns.{candidate}
 use Rattle.afr_heal.proofs.Finding.{over_asked}
@@ -28,10 +28,10 @@ use Rattle.afr_model.specs.Healing.{First, busy_by, first_by, marks_in, whole_of
 use Rattle.afr_model.specs.HealReplies.{IsHealAnswered, by_first, by_owner, is_clean, or_else}
 use Rattle.afr_model.specs.Showing.{among}
 use Rattle.afr_model.specs.Standing.{getting}
-use Rattle.afr_model_moves.proofs.Tests.{all_no, some_no}
+use Rattle.afr_model_moves.proofs.Tests.{some_no}
 use Rattle.afr_model_moves.specs.Keeps.{keeps_in}
 use Rattle.afr_model_moves.specs.Ranges.{MarksInRange}
-use Rattle.afr_model_moves.specs.Register.{Exact, HealPart, Opening, accuses, good, has_number, holder, over, shows_number}
+use Rattle.afr_model_moves.specs.Register.{Exact, HealPart, Opening, good, has_number, holder, over, shows_number}
 use Rattle.afr_model_moves.specs.Sets.{any}
 use Rattle.afr_model_moves.specs.Steps.{goes_on_at}
 use Rattle.afr_object.specs.declared.entry.View.{View}
@@ -71,16 +71,6 @@ some_number d (a ∷ b ∷ c ∷ []) five h = absurd (cc five)
 some_number d (a ∷ b ∷ c ∷ e ∷ []) five h = absurd (cc five)
 some_number d (a ∷ b ∷ c ∷ e ∷ f ∷ k ∷ more) five h = absurd (omega (arith, five))
 
-zero_of : (k : ℕ) → nat_lt 0 k ≡ false → not (not (k == 0)) ≡ true
-zero_of k h = grind (arith, nat_tests, h)
-
--- a view that accuses nobody by the test of the model does so by that of the discipline
-none_shown : (kind : Kind) (s : ℕ) (view : Option View) → shown_missed kind s view ≡ false → not (accuses kind view s) ≡ true
-none_shown kind s None h = refl
-none_shown Bytes s (Some view) h = zero_of _ h
-none_shown Attrs s (Some view) h = zero_of _ h
-none_shown Names s (Some view) h = zero_of _ h
-
 -- looks whose views are of bricks below n that answered
 module _ (shape : Shape) (kind : Kind) (seen : Looked) (few : shape.n ≤ 5) (low : (x : ℕ) → member seen.reached x ≡ true → x < shape.n) (shown : IsReached seen)
     (numbers : ViewsAreWhole seen) where
@@ -91,33 +81,15 @@ module _ (shape : Shape) (kind : Kind) (seen : Looked) (few : shape.n ≤ 5) (lo
   pub holder_seen : (b : ℕ) → member (holders_of seen) b ≡ true → (member seen.reached b ≡ true) × (is_some (view_at b seen) ≡ true)
   holder_seen b m = both (member seen.reached b) (is_some (view_at b seen)) (sym (member_holders seen b (holders_below seen b m)) ∙ m)
 
+  answered : IsAnswered shape.n seen
+  answered = record { low = low; shown = shown }
+
   pub holds : (b : ℕ) → member (holders_of seen) b ≡ true → holder views b ≡ true
-  holds b m = go (view_at b seen) (holder_seen b m).1
-    where
-      go : (v : Option View) → is_some v ≡ true → holder (λ x. v) b ≡ true
-      go None h = absurd (cc h)
-      go (Some view) h = refl
+  holds b m = sym (holders_tell shape.n seen few answered b (holders_below seen b m)) ∙ m
 
   -- a good copy is good by the discipline's test
   pub good_seen : (s : ℕ) → member (good_copies shape seen kind) s ≡ true → (s < shape.n) × (good shape.n (keeps_in shape) kind views s ≡ true)
-  good_seen s m =
-      let small = good_below shape seen kind s m in
-      let held = good_are_holders shape seen kind s m in
-      let copy = both (is_holder seen s) (keeps shape kind s) (sym (member_copies shape seen kind s small) ∙ good_are_copies shape seen kind s m) in
-      let five : nat_lt s 5 ≡ true = grind (arith, nat_tests, small) in (
-        low s (holder_seen s held).0,
-        pair _ _ (pair (holder views s) (keeps_in shape s kind) (holds s held) (pair (nat_lt s 5) (keeps shape kind s) five copy.1)) (all_no shape.n (λ x. not (accuses kind (views x) s)) clean),
-      )
-    where
-      clean : (x : ℕ) → x < shape.n → not (accuses kind (views x) s) ≡ true
-      clean x l = none_shown kind s (view_at x seen) (by (view_at x seen) refl (nobody_accuses shape seen kind s x m (omega (arith, few, l))))
-        where
-          by : (view : Option View) → view_at x seen ≡ view → accuses_at kind x s seen ≡ false → shown_missed kind s (view_at x seen) ≡ false
-          by None e none = rw e refl
-          by (Some view) e none =
-              let there : member seen.reached x ≡ true = shown x (rw e refl) in
-              let both_none : (true && shown_missed kind s (view_at x seen)) ≡ false = subst (λ (f : Bool). (f && shown_missed kind s (view_at x seen)) ≡ false) there none in
-              both_none
+  good_seen s m = (good_low shape seen kind answered s m, sym (good_tells shape seen kind few answered s (good_below shape seen kind s m)) ∙ m)
 
   -- where not all is clean, a view shows a number
   pub number_seen : is_clean kind seen ≡ false → any shape.n (λ x. shows_number kind (views x)) ≡ true

@@ -5,7 +5,7 @@ use Rattle.afr_base.specs.Bricks.{all_five, from_table, member, minus}
 use Rattle.afr_base.specs.Keeping.{keeps}
 use Rattle.afr_base.specs.SetLemmas.{member_minus}
 use Rattle.afr_base.specs.declared.ids.Kind.{Kind}
-use Rattle.afr_base.specs.declared.ids.Kind.TheVariants.{Attrs, Bytes, Names}
+use Rattle.afr_base.specs.declared.ids.Kind.TheVariants.{Bytes}
 use Rattle.afr_base.specs.declared.ids.Shape.{Shape}
 use Rattle.afr_choice.specs.Looks.{view_at}
 use Rattle.afr_choice.specs.Verdict.{accuses_at, copies_of, is_holder, shown_missed}
@@ -16,7 +16,8 @@ use Rattle.afr_law_heal.proofs.PartingEnds.{holds_it}
 use Rattle.afr_law_heal.proofs.PartingLemmas.{filter_none}
 use Rattle.afr_law_heal.specs.Stages.{IsReached}
 use Rattle.afr_model.specs.Moved.{accuser, len_in, or_brick, unlike}
-use Rattle.afr_model_moves.proofs.Tests.{all_no}
+use Rattle.afr_choice.proofs.Agreement.{accuses_same}
+use Rattle.afr_model_moves.proofs.Tests.{all_no, deny}
 use Rattle.afr_model_moves.specs.Keeps.{keeps_in}
 use Rattle.afr_model_moves.specs.Register.{Exact, Finish, HealPart, Opening, Piece, accuses, all, holder, is_opening, len_of, unaccused}
 use Rattle.afr_model_moves.specs.Steps.{goes_on_at, sink}
@@ -24,14 +25,8 @@ use Rattle.afr_object.specs.declared.entry.View.{View}
 use Rattle.afr_heal_machine.specs.Outcome.{mover}
 
 -- ---- views
-zero_of : (k : ℕ) → nat_lt 0 k ≡ false → not (not (k == 0)) ≡ true
-zero_of k h = grind (arith, nat_tests, h)
-
 none_missed : (kind : Kind) (s : ℕ) (view : Option View) → shown_missed kind s view ≡ false → not (accuses kind view s) ≡ true
-none_missed kind s None h = refl
-none_missed Bytes s (Some view) h = zero_of _ h
-none_missed Attrs s (Some view) h = zero_of _ h
-none_missed Names s (Some view) h = zero_of _ h
+none_missed kind s view h = deny (accuses kind view s) (sym (accuses_same kind s view) ∙ h)
 
 not_shown : (kind : Kind) (s : ℕ) (view : Option View) → (is_some view ≡ true → ⊥) → not (accuses kind view s) ≡ true
 not_shown kind s None h = refl

@@ -1,6 +1,8 @@
 -- The loop that gathers the candidates, brick by brick.
-use Rattle.std.proofs.Common.{◌≡◌, ℕ, ◌+◌, ◌<◌, ◌≤◌, Bool, true, false, List, [], ◌∷◌, ◌++◌, refl, sym, ap, ◌∙◌, arith, filter, get_or, map, take, length, length-append, if◌then◌else◌}
-use Rattle.afr_base.specs.Bricks.{all_five, from_table, same, same_is}
+use Rattle.std.proofs.Common.{◌≡◌, ℕ, ◌+◌, ◌<◌, ◌≤◌, Bool, true, false, List, [], ◌∷◌, ◌++◌, refl, sym, ap, ◌∙◌, arith, filter, map, take, length, length-append, if◌then◌else◌}
+use Rattle.afr_base.proofs.OfFive.{own_test}
+use Rattle.afr_base.specs.Bricks.{all_five, from_table, member, same, same_is}
+use Rattle.afr_base.specs.Five.{picked}
 use Rattle.afr_rule.specs.declared.candidate.Candidate.{Candidate}
 
 module _ (copy : ℕ → Candidate) (p : ℕ → Bool) where
@@ -32,11 +34,7 @@ pub longer : (flag : Bool) (copies after : List Candidate) (added : Candidate) (
 longer true copies after added b l e = rw e (grind (arith, length-append copies (added ∷ []), l))
 longer false copies after added b l e = rw e (omega (arith, l))
 
--- the flags of the five bricks as a test
-abbrev pub is_set : List Bool → ℕ → Bool
-is_set flags b = get_or flags b false
-
 -- after the fifth round
-pub all_gathered : (copy : ℕ → Candidate) (flags : List Bool) (copies : List Candidate) (x : ℕ) → x ≡ 5 → copies ≡ map copy (filter (is_set flags) (take x all_five))
-    → (test : ℕ → Bool) → flags ≡ map test all_five → copies ≡ map copy (filter test all_five)
-all_gathered copy flags copies x end k test is = k ∙ (λ i. map copy (filter (is_set (is i)) (take (end i) all_five)))
+pub all_gathered : (copy : ℕ → Candidate) (set : List ℕ) (copies : List Candidate) (x : ℕ) → x ≡ 5 → copies ≡ map copy (filter (member set) (take x all_five))
+    → set ≡ picked (member set 0) (member set 1) (member set 2) (member set 3) (member set 4) → copies ≡ map copy set
+all_gathered copy set copies x end k is = k ∙ (λ i. map copy (filter (member set) (take (end i) all_five))) ∙ ap (map copy) (sym (own_test set is))

@@ -1,10 +1,9 @@
 //! The copies that a rule chooses from, gathered brick by brick.
-ghost use Rattle.std.specs.Prelude.{◌≡◌, ℕ, Bool, ◌<◌, [], ◌∷◌, ◌++◌, filter, if◌then◌else◌, length, map};
-ghost use Rattle.afr_base.specs.Bricks.{all_five};
+ghost use Rattle.std.specs.Prelude.{◌≡◌, ◌<◌, [], ◌∷◌, ◌++◌, if◌then◌else◌, length, map};
 ghost use Rattle.afr_rule.specs.Copies.{copy_in, len_at};
 
 use crate::candidate::Candidate;
-use afr_base::BrickId;
+use afr_base::{BrickId, BrickSet};
 use afr_choice::Looked;
 use std::marker::Model;
 
@@ -50,13 +49,14 @@ impl Candidates {
         }
     }
 
-    /// The copies on the bricks whose flags are set, the lowest first.
-    pub fn of(flags: [bool; 5], looked: &Looked) -> Candidates
-        ensures { (test : ℕ → Bool) → flags ≡ map test all_five → result ≡ map (copy_in looked.now) (filter test all_five) }
+    /// The copies on the bricks of a set, the lowest first.
+    pub fn of(set: BrickSet, looked: &Looked) -> Candidates
+        ensures { result ≡ map (copy_in looked.now) set }
     {
+        set.is_of_five();
         let mut copies = Candidates::none();
         for x in 0..5u8 {
-            copies.push_if(flags[x as usize], copy_in(looked, BrickId(x)));
+            copies.push_if(set.has(BrickId(x)), copy_in(looked, BrickId(x)));
         }
         copies
     }

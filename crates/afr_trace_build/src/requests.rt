@@ -62,12 +62,7 @@ fn may_all_miss(plan: &Plan, missed: &[bool; 5]) -> bool
 fn flagged_bricks(missed: &[bool; 5]) -> BrickSet
     ensures { result ≡ flagged_bricks missed.now }
 {
-    BrickSet::none()
-        .with_if(missed[0], BrickId(0))
-        .with_if(missed[1], BrickId(1))
-        .with_if(missed[2], BrickId(2))
-        .with_if(missed[3], BrickId(3))
-        .with_if(missed[4], BrickId(4))
+    BrickSet::of_five(missed[0], missed[1], missed[2], missed[3], missed[4])
 }
 
 fn post_from(

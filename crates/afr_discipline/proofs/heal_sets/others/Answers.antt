@@ -1,8 +1,12 @@
-use Rattle.afr_discipline.proofs.SetsOfFive.{member_picked}
+use Rattle.std.proofs.Common.{◌&&◌, ◌∙◌, List, ℕ, ap, not}
+use Rattle.afr_base.specs.Bricks.{member}
+use Rattle.afr_base.specs.SetLemmas.{member_minus}
+use Rattle.afr_discipline.proofs.LeftLemmas.{turned_round}
 use Rattle.afr_discipline.proofs.heal_sets.others.Goals as goal
-use Rattle.afr_discipline.specs.Stands.{seen_as}
-use Rattle.afr_model_moves.specs.Steps.{other}
 
 pub returns : goal.returns
-returns c = rw (c.picked.ensures, c.is_other.ensures, c.is_other-2.ensures, c.is_other-3.ensures, c.is_other-4.ensures, c.is_other-5.ensures)
-    (member_picked (other (seen_as c.args.register.now) c.args.s.0))
+returns c x few =
+    ap (λ (t : List ℕ). member t x) c.minus.ensures
+    ∙ member_minus c.holders.result c.only.result x
+    ∙ turned_round (member c.only.result x) (member c.holders.result x)
+    ∙ (λ i. c.holders.ensures x few i && not (c.only.ensures x few i))

@@ -1,9 +1,17 @@
-use Rattle.afr_discipline.proofs.SetsOfFive.{member_picked}
+use Rattle.std.proofs.Common.{◌∙◌, List, ℕ, ap}
+use Rattle.afr_base.specs.Bricks.{member}
+use Rattle.afr_base.specs.SetLemmas.{member_removed}
+use Rattle.afr_discipline.proofs.SetsOfFive.{keeping_all, keeping_no_arbiter}
 use Rattle.afr_discipline.proofs.heal_sets.sinks.Goals as goal
 use Rattle.afr_discipline.specs.Stands.{seen_as}
-use Rattle.afr_model_moves.specs.Keeps.{keeps_in}
-use Rattle.afr_model_moves.specs.Steps.{sink}
+use Rattle.afr_model_moves.specs.Steps.{other}
+
+pub returns-then-register : goal.returns-then-register
+returns-then-register c x few =
+    ap (λ (t : List ℕ). member t x) c.without.ensures
+    ∙ member_removed 2 c.others-others.result x
+    ∙ keeping_no_arbiter c.args.register.now.shape (member c.others-others.result x) (other (seen_as c.args.register.now) c.args.s.0 x) x few c.if-register.true (c.others-others.ensures x few)
 
 pub returns : goal.returns
-returns c = rw (c.picked.ensures, c.is_sink.ensures, c.is_sink-2.ensures, c.is_sink-3.ensures, c.is_sink-4.ensures, c.is_sink-5.ensures)
-    (member_picked (sink (keeps_in c.args.register.now.shape) (seen_as c.args.register.now) c.args.s.0))
+returns c x few =
+    keeping_all c.args.register.now.shape (member c.others-others.result x) (other (seen_as c.args.register.now) c.args.s.0 x) x few c.if-register.false (c.others-others.ensures x few)
