@@ -5,15 +5,15 @@ ghost use Rattle.afr_choice.specs.Verdict.{good_copies, verdict_of};
 ghost use Rattle.afr_rule.specs.Choosing.{IsPick, IsRule};
 ghost use Rattle.afr_client_walk.specs.Choosing.{RuleAnswers, candidates_of, choices, reader_of};
 
-use afr_base::{BrickId, Kind, Shape};
+use afr_base::{BrickId, BrickSet, Kind, Shape};
 use afr_choice::{Looked, Verdict, good};
 use afr_rule::{Candidate, Candidates, ReadRule};
 
-/// The good copies, the lowest first.
-fn candidates(shape: &Shape, looked: &Looked, kind: Kind) -> Candidates
-    ensures { result ≡ candidates_of shape.now looked.now kind }
+/// The good copies, which these are, the lowest first.
+fn candidates(sources: BrickSet, _shape: &Shape, looked: &Looked, _kind: Kind) -> Candidates
+    requires { sources ≡ good_copies _shape.now looked.now _kind }
+    ensures { result ≡ candidates_of _shape.now looked.now _kind }
 {
-    let sources = good(shape, looked, kind);
     let flags = [
         sources.has(BrickId(0)),
         sources.has(BrickId(1)),
@@ -36,7 +36,24 @@ pub fn pick<G: Fn(&[Candidate]) -> usize>(
     ensures picked { IsPick G.Fn rule.now (candidates_of shape.now looked.now kind) result }
     ensures small { result.0 < 5 }
 {
-    let copies = candidates(shape, looked, kind);
+    pick_among(good(shape, looked, kind), shape, looked, kind, rule)
+}
+
+/// The same, where the good copies are known.
+fn pick_among<G: Fn(&[Candidate]) -> usize>(
+    sources: BrickSet,
+    shape: &Shape,
+    looked: &Looked,
+    kind: Kind,
+    rule: &ReadRule<G>,
+) -> BrickId
+    requires rule { IsRule G.Fn rule.now }
+    requires good { sources ≡ good_copies shape.now looked.now kind }
+    requires some { is_nothing (good_copies shape.now looked.now kind) ≡ false }
+    ensures picked { IsPick G.Fn rule.now (candidates_of shape.now looked.now kind) result }
+    ensures small { result.0 < 5 }
+{
+    let copies = candidates(sources, shape, looked, kind);
     rule.pick(copies.as_slice())
 }
 
@@ -54,7 +71,7 @@ pub fn pick_if<G: Fn(&[Candidate]) -> usize>(
     ensures small { (reader_of result).0 < 5 }
 {
     match verdict {
-        Verdict::Sources(_) => Some(pick(shape, looked, kind, rule)),
+        Verdict::Sources(sources) => Some(pick_among(*sources, shape, looked, kind, rule)),
         _ => None,
     }
 }
