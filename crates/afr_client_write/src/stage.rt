@@ -32,17 +32,28 @@ pub enum WriteStage {
     Ending(KeptReply),
 }
 
-/// Where a write begins: what is too large ends before anything is asked.
+/// Where a write begins.
 pub(crate) fn first(job: WriteJob, walk: &Walk) -> WriteStage
     requires { IsWalk walk.now }
     ensures value { result ≡ first_stage job walk.now }
     ensures kept { IsWrite walk.now result }
 {
     let mut stage = ending(Reply::TooLarge);
-    if !is_too_large(&job) {
-        leave(job, walk, &mut stage);
-    }
+    put_first(job, walk, &mut stage);
     stage
+}
+
+/// The same in the place of another stage: what is too large ends before anything is asked.
+pub(crate) fn put_first(job: WriteJob, walk: &Walk, stage: &mut WriteStage)
+    requires { IsWalk walk.now }
+    ensures value { stage.new ≡ first_stage job walk.now }
+    ensures kept { IsWrite walk.now stage.new }
+{
+    if is_too_large(&job) {
+        *stage = ending(Reply::TooLarge);
+    } else {
+        leave(job, walk, stage);
+    }
 }
 
 /// Where a walk leaves the write. The stage is written in its place, since a transaction is large; it stands apart, so that
