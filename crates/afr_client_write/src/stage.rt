@@ -1,8 +1,8 @@
 //! The stages of a write, and what an answer makes of each.
 ghost use Rattle.std.specs.Prelude.{◌≡◌, ◌<◌, ◌≤◌, false, not};
-ghost use Rattle.afr_client_write.specs.Job.{IsJob};
+ghost use Rattle.afr_client_write.specs.Job.{IsJob, change_of, is_empty};
 ghost use Rattle.afr_client_write.specs.Write.{IsWrite, after_walk, at_object, choices_at, first_stage, is_over, next_at, stage_after, stage_begun, walk_after};
-ghost use Rattle.afr_client_transaction.specs.Progress.{told_to};
+ghost use Rattle.afr_client_transaction.specs.Progress.{starting, told_to};
 ghost use Rattle.afr_lines.specs.Told.{told_by};
 ghost use Rattle.afr_lines.specs.declared.line.Next.{Next};
 ghost use Rattle.afr_object.specs.Tables.{is_dir};
@@ -13,7 +13,7 @@ ghost use Rattle.afr_client_walk.specs.Choosing.{RuleAnswers, reader_of};
 ghost use Rattle.afr_client_walk.specs.Walk.{IsWalk, is_walking};
 
 use crate::job::{WriteJob, change_of, is_empty, is_of_bytes, is_too_large};
-use afr_base::{BrickId, What};
+use afr_base::{BrickId, Gfid, What};
 use afr_client_transaction::Transaction;
 use afr_client_walk::{Walk, WalkStep, stop_reply};
 use afr_discipline::Register;
@@ -93,7 +93,20 @@ fn arrive(job: WriteJob, object: Entry, register: &Register, stage: &mut WriteSt
         *stage = ending(Reply::Ok(Good::Done));
         return;
     }
-    let change = change_of(object.gfid, job);
+    begin_change(job, object.gfid, register, stage);
+}
+
+/// What was found begins to be changed. It stands apart, for its frame holds a transaction.
+#[inline(never)]
+fn begin_change(job: WriteJob, gfid: Gfid, register: &Register, stage: &mut WriteStage)
+    requires fits { IsJob job }
+    requires some { is_empty job ≡ false }
+    requires unused { IsUnused register.now }
+    requires few { register.now.shape.n ≤ 5 }
+    requires low { 0 < register.now.shape.n }
+    ensures { stage.new ≡ WriteStage.Changing (starting (change_of gfid job) register.now) }
+{
+    let change = change_of(gfid, job);
     *stage = WriteStage::Changing(Transaction::continuing(*register, change));
 }
 
