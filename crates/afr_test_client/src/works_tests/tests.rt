@@ -23,15 +23,21 @@ fn seen() -> Answer {
     })
 }
 
-fn on_three(alloc: Global, command: &Command) -> Option<Work>
+fn begins_on_three(work: &mut Work, alloc: Global, command: &Command) -> Option<()>
     requires { has_machine command.now ≡ true }
 {
     let shape = Shape {
         n: 3,
         arbiter: false,
     };
+    work.begin(alloc, shape, command).ok()
+}
+
+fn on_three(alloc: Global, command: &Command) -> Option<Work>
+    requires { has_machine command.now ≡ true }
+{
     let mut work = Work::none();
-    work.begin(alloc, shape, command).ok()?;
+    begins_on_three(&mut work, alloc, command)?;
     Some(work)
 }
 
@@ -108,6 +114,33 @@ fn a_stat_looks_and_ends(rt: HostRuntime) {
     assert!(rt;
         matches!(
             stat_of_the_root(rt.alloc()),
+            Some((
+                (BrickId(0), Request::Look { gfid: ROOT }),
+                Reply::Ok(Good::Stat { len: 5, .. })
+            ))
+        )
+    );
+}
+
+/// The same of a stat in the place of one that has ended.
+fn stat_after_another(alloc: Global) -> Option<((BrickId, Request), Reply)> {
+    let path = List::new(alloc);
+    let command = Command::Stat { path };
+    let mut work = on_three(alloc, &command)?;
+    all_seen(&mut work);
+    work.rest();
+    begins_on_three(&mut work, alloc, &command)?;
+    let first = asked(&work)?;
+    all_seen(&mut work);
+    let last = ends_with(&work)?;
+    Some((first, last))
+}
+
+#[test]
+fn a_stat_begins_in_the_place_of_another(rt: HostRuntime) {
+    assert!(rt;
+        matches!(
+            stat_after_another(rt.alloc()),
             Some((
                 (BrickId(0), Request::Look { gfid: ROOT }),
                 Reply::Ok(Good::Stat { len: 5, .. })
