@@ -10,6 +10,7 @@ ghost use Rattle.afr_plan.specs.OnNames.{has_name, is_on_name};
 ghost use Rattle.afr_client.specs.Work.{IsWork};
 
 use crate::on_heap::OnHeap;
+use crate::spares::Spares;
 use crate::work::WorkMachine;
 use afr_base::{NameId, NoMemory, Shape};
 use afr_client_entry::{EntryJob, EntryMachine, RenameMachine};
@@ -19,9 +20,14 @@ use afr_object::{Chunk, TryCopy};
 use afr_plan::{Command, NamePath};
 use std::alloc::Global;
 
-/// The machine of a command, before its first line. All have one but a command on the last name of a path that has no name, which
-/// a rename is on both its paths.
-pub fn work_for(alloc: Global, shape: Shape, command: &Command) -> Result<WorkMachine, NoMemory>
+/// The machine of a command, before its first line, in the place of one that has ended, where one is spare. All have one but a
+/// command on the last name of a path that has no name, which a rename is on both its paths.
+pub(crate) fn work_for(
+    alloc: Global,
+    shape: Shape,
+    command: &Command,
+    spares: &mut Spares,
+) -> Result<WorkMachine, NoMemory>
     requires few { shape.n ≤ 5 }
     requires some { 0 < shape.n }
     requires has { has_machine command.now ≡ true }
@@ -29,31 +35,35 @@ pub fn work_for(alloc: Global, shape: Shape, command: &Command) -> Result<WorkMa
     ensures sound { IfOk result (λ work. IsWork work) }
 {
     match command {
-        Command::Write { path, at, bytes } => writes_bytes(alloc, shape, path, *at, bytes),
-        Command::Cut { path, len } => writes(alloc, shape, path, WriteJob::Cut { len: *len }),
+        Command::Write { path, at, bytes } => {
+            writes_bytes(alloc, shape, path, *at, bytes, spares)
+        }
+        Command::Cut { path, len } => {
+            writes(alloc, shape, path, WriteJob::Cut { len: *len }, spares)
+        }
         Command::SetAttr { path, key, value } => {
             let job = WriteJob::SetAttr {
                 key: *key,
                 value: *value,
             };
-            writes(alloc, shape, path, job)
+            writes(alloc, shape, path, job, spares)
         }
         Command::Read { path, at, len } => {
             let job = LookupJob::Read { at: *at, len: *len };
-            reads(alloc, shape, path, job)
+            reads(alloc, shape, path, job, spares)
         }
         Command::GetAttr { path, key } => {
             let job = LookupJob::GetAttr { key: *key };
-            reads(alloc, shape, path, job)
+            reads(alloc, shape, path, job, spares)
         }
-        Command::Ls { path } => reads(alloc, shape, path, LookupJob::Ls),
-        Command::Stat { path } => reads(alloc, shape, path, LookupJob::Stat),
+        Command::Ls { path } => reads(alloc, shape, path, LookupJob::Ls, spares),
+        Command::Stat { path } => reads(alloc, shape, path, LookupJob::Stat, spares),
         Command::Rename { from, to } => renames(alloc, shape, from, to),
         _ => on_name(alloc, shape, command),
     }
 }
 
-/// The machine of a command on the last name of its path.
+/// The machine of a command on the last name of its path, which stands in a place of its own.
 fn on_name(alloc: Global, shape: Shape, command: &Command) -> Result<WorkMachine, NoMemory>
     requires few { shape.n ≤ 5 }
     requires some { 0 < shape.n }
@@ -89,6 +99,7 @@ fn writes_bytes(
     path: &NamePath,
     at: u32,
     bytes: &Chunk,
+    spares: &mut Spares,
 ) -> Result<WorkMachine, NoMemory>
     requires few { shape.n ≤ 5 }
     requires some { 0 < shape.n }
@@ -96,10 +107,46 @@ fn writes_bytes(
     ensures sound { IfOk result (λ work. IsWork work) }
 {
     let bytes = bytes.copy()?;
-    writes(alloc, shape, path, WriteJob::Write { at, bytes })
+    writes(alloc, shape, path, WriteJob::Write { at, bytes }, spares)
 }
 
 fn writes(
+    alloc: Global,
+    shape: Shape,
+    path: &NamePath,
+    job: WriteJob,
+    spares: &mut Spares,
+) -> Result<WorkMachine, NoMemory>
+    requires few { shape.n ≤ 5 }
+    requires some { 0 < shape.n }
+    ensures ok { IfOk result (λ work. work ≡ WorkMachine.Write (write_from shape path.now job)) }
+    ensures sound { IfOk result (λ work. IsWork work) }
+{
+    match spares.write.take() {
+        Some(machine) => writes_again(machine, shape, path, job),
+        None => writes_anew(alloc, shape, path, job),
+    }
+}
+
+fn writes_again(
+    mut machine: OnHeap<WriteMachine>,
+    shape: Shape,
+    path: &NamePath,
+    job: WriteJob,
+) -> Result<WorkMachine, NoMemory>
+    requires few { shape.n ≤ 5 }
+    requires some { 0 < shape.n }
+    ensures ok { IfOk result (λ work. work ≡ WorkMachine.Write (write_from shape path.now job)) }
+    ensures sound { IfOk result (λ work. IsWork work) }
+{
+    machine.value.begin_again(shape, path.as_slice(), job)?;
+    machine.value.stays_sound();
+    Ok(WorkMachine::Write(machine))
+}
+
+/// It stands apart, so that only a first work pays for a frame that holds a whole machine.
+#[inline(never)]
+fn writes_anew(
     alloc: Global,
     shape: Shape,
     path: &NamePath,
@@ -124,6 +171,41 @@ fn writes(
 }
 
 fn reads(
+    alloc: Global,
+    shape: Shape,
+    path: &NamePath,
+    job: LookupJob,
+    spares: &mut Spares,
+) -> Result<WorkMachine, NoMemory>
+    requires few { shape.n ≤ 5 }
+    requires some { 0 < shape.n }
+    ensures ok { IfOk result (λ work. work ≡ WorkMachine.Lookup (lookup_from shape path.now job)) }
+    ensures sound { IfOk result (λ work. IsWork work) }
+{
+    match spares.lookup.take() {
+        Some(machine) => reads_again(machine, shape, path, job),
+        None => reads_anew(alloc, shape, path, job),
+    }
+}
+
+fn reads_again(
+    mut machine: OnHeap<LookupMachine>,
+    shape: Shape,
+    path: &NamePath,
+    job: LookupJob,
+) -> Result<WorkMachine, NoMemory>
+    requires few { shape.n ≤ 5 }
+    requires some { 0 < shape.n }
+    ensures ok { IfOk result (λ work. work ≡ WorkMachine.Lookup (lookup_from shape path.now job)) }
+    ensures sound { IfOk result (λ work. IsWork work) }
+{
+    machine.value.begin_again(shape, path.as_slice(), job)?;
+    machine.value.stays_sound();
+    Ok(WorkMachine::Lookup(machine))
+}
+
+#[inline(never)]
+fn reads_anew(
     alloc: Global,
     shape: Shape,
     path: &NamePath,

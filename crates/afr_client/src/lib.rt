@@ -4,9 +4,11 @@
 mod begin;
 mod laws;
 mod on_heap;
+mod present;
+mod spares;
 mod work;
 
-pub use begin::work_for;
 pub use laws::{a_work_keeps_five_places, a_work_reads_good_copies, a_work_stays_sound};
 pub use on_heap::OnHeap;
+pub use present::Work;
 pub use work::WorkMachine;

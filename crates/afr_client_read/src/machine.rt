@@ -1,5 +1,5 @@
 //! The machine of one read: what it asks next, and what it makes of the answers.
-ghost use Rattle.std.specs.Prelude.{None, Ok, Some, ◌≡◌, ◌<◌, ◌≤◌, IfOk, false, not};
+ghost use Rattle.std.specs.Prelude.{None, Ok, Some, ◌≡◌, ◌<◌, ◌≤◌, IfOk, OnErr, OnOk, false, not};
 ghost use Rattle.afr_client_read.specs.Lookup.{IsLookup, answered, choices_of, is_asking, lookup_from, next_of};
 ghost use Rattle.afr_rule.specs.Choosing.{IsRule};
 ghost use Rattle.afr_client_walk.specs.Choosing.{RuleAnswers, reader_of};
@@ -54,6 +54,25 @@ impl LookupMachine {
             job,
             stage,
         })
+    }
+
+    /// Another command begins in this one's place, for a machine is large. Only the names of its path take memory.
+    pub fn begin_again(
+        &mut self,
+        shape: Shape,
+        path: &[NameId],
+        job: LookupJob,
+    ) -> Result<(), NoMemory>
+        requires few { shape.n ≤ 5 }
+        requires some { 0 < shape.n }
+        ensures ok { OnOk result (self.new ≡ lookup_from shape path.now job) }
+        ensures err { OnErr result (self.new ≡ self.old) }
+    {
+        let names = names_of(self.alloc, path)?;
+        self.walk.begin_again(shape, names);
+        self.job = job;
+        self.stage = left_by(job, &self.walk);
+        Ok(())
     }
 
     /// Whom the next line asks, where it is a request; that is written where it is to stand, for it is large.

@@ -6,6 +6,7 @@ use Rattle.afr_lines.specs.Areas.{area_for}
 use Rattle.afr_lines.specs.declared.answer.Told.{Told}
 use Rattle.afr_lines.specs.declared.answer.Told.TheVariants as as_told
 use Rattle.afr_lines.specs.declared.lock.Domain.TheVariants.{Work}
+use Rattle.afr_lines.specs.declared.request.Request.{Request}
 use Rattle.afr_lines.specs.declared.request.Request.TheVariants as request
 use Rattle.afr_model_moves.specs.Note.{is_held}
 use Rattle.afr_object.specs.declared.change.Change.{Change}
@@ -34,6 +35,10 @@ IsMade stage made m = Unit {0}
 pub record IsTransaction (made : Option Change) (m : TransactionProgress) : Type 0 where
   pub sound : Sound m
   pub kept : IsMade m.stage made m
+
+-- the request for the lock, which is asked again and again while another actor holds the area
+abbrev pub lock_of : Change → Request
+lock_of change = request.Lock Work (area_for change)
 
 -- a lock was asked for that another actor holds
 abbrev pub meets_another : Stage → Told → Bool

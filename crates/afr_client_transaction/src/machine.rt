@@ -13,7 +13,7 @@ ghost use Rattle.afr_client_transaction.specs.Progress.{CarriesAt, TransactionPr
 ghost use Rattle.afr_client_transaction.specs.Sound.{IsUnused, Sound, Suits};
 
 use crate::change::{made_by, numbered};
-use crate::lock::{is_held, met_another, says_held};
+use crate::lock::{is_held, lock_request, met_another, says_held};
 use crate::reply::{TransactionOutcome, outcome_of, reply_for};
 use crate::stage::{LocksAndLooks, Stage, after, asked_after, left_of, put_request};
 use afr_base::{BrickId, BrickSet, NoMemory, Shape};
@@ -34,17 +34,19 @@ pub struct Transaction {
     asked: LocksAndLooks,
     /// Whether the latest answer was that another actor holds the area. Told so once more, a transaction stays as it is.
     waits: bool,
+    /// The request for the lock, which is asked again and again while another actor holds the area.
+    lock: Request,
 }
 
 impl Model for Transaction {
     ghost use Rattle.afr_client_transaction.specs.Progress.{TransactionProgress};
-    ghost use Rattle.afr_client_transaction.specs.Made.{IsTransaction, Waits};
+    ghost use Rattle.afr_client_transaction.specs.Made.{IsTransaction, Waits, lock_of};
 
     ghost Value = { TransactionProgress };
 
     ghost view = { λ m. record { change = m.change; register = m.register; stage = m.stage; asked = m.asked } };
 
-    ghost invariant = { λ m. IsTransaction m.made (record { change = m.change; register = m.register; stage = m.stage; asked = m.asked }) × Waits m.waits (record { change = m.change; register = m.register; stage = m.stage; asked = m.asked }) };
+    ghost invariant = { λ m. IsTransaction m.made (record { change = m.change; register = m.register; stage = m.stage; asked = m.asked }) × Waits m.waits (record { change = m.change; register = m.register; stage = m.stage; asked = m.asked }) × (m.lock ≡ lock_of m.change) };
 }
 
 impl Transaction {
@@ -66,6 +68,7 @@ impl Transaction {
         requires suits { Suits change }
         ensures value { result ≡ starting change register }
     {
+        let lock = lock_request(&change);
         Transaction {
             change,
             made: None,
@@ -77,6 +80,7 @@ impl Transaction {
                 looked_at: BrickSet::none(),
             },
             waits: false,
+            lock,
         }
     }
 
@@ -249,6 +253,9 @@ impl Transaction {
     fn put_request(&self, stage: Stage, request: &mut Request)
         ensures { request.new ≡ request_at stage self.now }
     {
-        put_request(stage, &self.change, &self.register, request);
+        match stage {
+            Stage::Locking => *request = self.lock,
+            _ => put_request(stage, &self.change, &self.register, request),
+        }
     }
 }

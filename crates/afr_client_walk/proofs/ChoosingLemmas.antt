@@ -68,6 +68,10 @@ pick_small calls choose shape looked kind b w = good_below shape looked kind b.0
 pub sources_some : (shape : Shape) (looked : Looked) (kind : Kind) (verdict : Verdict) (s : List ℕ) → verdict ≡ verdict_of shape looked kind → verdict ≡ Sources s → is_nothing (good_copies shape looked kind) ≡ false
 sources_some shape looked kind verdict s judged is = let says = sources_say shape looked kind s (sym judged ∙ is) in subst (λ (t : List ℕ). is_nothing t ≡ false) says.1 says.2
 
+-- they are the good copies
+pub sources_good : (shape : Shape) (looked : Looked) (kind : Kind) (verdict : Verdict) (s : List ℕ) → verdict ≡ verdict_of shape looked kind → verdict ≡ Sources s → s ≡ good_copies shape looked kind
+sources_good shape looked kind verdict s judged is = (sources_say shape looked kind s (sym judged ∙ is)).1
+
 -- so where the verdict has sources, the chosen copy is a good one
 pub source_good : (shape : Shape) (looked : Looked) (kind : Kind) (s : List ℕ) (b : BrickId) → verdict_of shape looked kind ≡ Sources s → IsAmong (choices shape looked kind) b → member (good_copies shape looked kind) b.0 ≡ true
 source_good shape looked kind s b e among =

@@ -5,17 +5,9 @@ ghost use Rattle.afr_choice.specs.Verdict.{good_copies, verdict_of};
 ghost use Rattle.afr_rule.specs.Choosing.{IsPick, IsRule};
 ghost use Rattle.afr_client_walk.specs.Choosing.{RuleAnswers, candidates_of, choices, reader_of};
 
-use afr_base::{BrickId, Kind, Shape};
+use afr_base::{BrickId, BrickSet, Kind, Shape};
 use afr_choice::{Looked, Verdict, good};
 use afr_rule::{Candidate, Candidates, ReadRule};
-
-/// The good copies, the lowest first.
-fn candidates(shape: &Shape, looked: &Looked, kind: Kind) -> Candidates
-    ensures { result ≡ candidates_of shape.now looked.now kind }
-{
-    let sources = good(shape, looked, kind);
-    Candidates::of(sources, looked)
-}
 
 /// The good copy that the rule picks.
 pub fn pick<G: Fn(&[Candidate]) -> usize>(
@@ -29,7 +21,24 @@ pub fn pick<G: Fn(&[Candidate]) -> usize>(
     ensures picked { IsPick G.Fn rule.now (candidates_of shape.now looked.now kind) result }
     ensures small { result.0 < 5 }
 {
-    let copies = candidates(shape, looked, kind);
+    pick_among(good(shape, looked, kind), shape, looked, kind, rule)
+}
+
+/// The same, where the good copies are known.
+fn pick_among<G: Fn(&[Candidate]) -> usize>(
+    sources: BrickSet,
+    shape: &Shape,
+    looked: &Looked,
+    kind: Kind,
+    rule: &ReadRule<G>,
+) -> BrickId
+    requires rule { IsRule G.Fn rule.now }
+    requires good { sources ≡ good_copies shape.now looked.now kind }
+    requires some { is_nothing (good_copies shape.now looked.now kind) ≡ false }
+    ensures picked { IsPick G.Fn rule.now (candidates_of shape.now looked.now kind) result }
+    ensures small { result.0 < 5 }
+{
+    let copies = Candidates::of(sources, looked);
     rule.pick(copies.as_slice())
 }
 
@@ -47,7 +56,7 @@ pub fn pick_if<G: Fn(&[Candidate]) -> usize>(
     ensures small { (reader_of result).0 < 5 }
 {
     match verdict {
-        Verdict::Sources(_) => Some(pick(shape, looked, kind, rule)),
+        Verdict::Sources(sources) => Some(pick_among(*sources, shape, looked, kind, rule)),
         _ => None,
     }
 }

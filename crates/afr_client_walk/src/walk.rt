@@ -4,6 +4,7 @@ ghost use Rattle.std.specs.Prelude.{◌≡◌, ◌<◌, ◌≤◌, ◌+◌, IfOk
 ghost use Rattle.afr_base.specs.Bricks.{is_nothing};
 ghost use Rattle.afr_discipline.specs.Notes.{noted_ask};
 ghost use Rattle.afr_lines.specs.declared.line.Next.{Next};
+ghost use Rattle.afr_object.specs.Tables.{root_entry};
 ghost use Rattle.afr_rule.specs.Choosing.{IsRule};
 ghost use Rattle.afr_client_walk.specs.Choosing.{RuleAnswers, choices, choices_after, reader_of};
 ghost use Rattle.afr_discipline.specs.Free.{AllowsAsk, IsFree, is_free};
@@ -15,7 +16,7 @@ use crate::looks::Looks;
 use crate::stop::Stop;
 use afr_base::{BrickId, Gfid, Kind, NameId, NoMemory, Shape, What};
 use afr_choice::{Verdict, judge};
-use afr_discipline::{Move, Register, fresh, note};
+use afr_discipline::{Move, Register, fresh, note, renew};
 use afr_lines::{Answer, Request, Told, told_of};
 use afr_object::{Entry, List, View};
 use afr_rule::{Candidate, ReadRule};
@@ -66,10 +67,7 @@ impl Walk {
         ensures value { result ≡ walk_from shape names }
         ensures kept { IsWalk result }
     {
-        let root = Entry {
-            gfid: Gfid(1),
-            what: What::Dir,
-        };
+        let root = root();
         Walk {
             shape,
             step: step_from(names.len(), 0, root),
@@ -78,6 +76,23 @@ impl Walk {
             object: root,
             register: fresh(shape),
         }
+    }
+
+    /// Another walk begins in this one's place, for a walk is large. It takes no memory.
+    pub fn begin_again(&mut self, shape: Shape, names: List<NameId>)
+        requires few { shape.n ≤ 5 }
+        requires some { 0 < shape.n }
+        ensures value { self.new ≡ walk_from shape names }
+        ensures kept { IsWalk self.new }
+    {
+        let root = root();
+        self.shape = shape;
+        self.step = step_from(names.len(), 0, root);
+        self.path = names;
+        self.read = 0;
+        self.object = root;
+        self.register.shape = shape;
+        renew(&mut self.register);
     }
 
     /// Whom it asks next, while the walk goes on; the request is written where it is to stand.
@@ -194,6 +209,16 @@ impl Walk {
             Answer::Entry(None) => self.step = WalkStep::Stopped(Stop::NoEntry),
             _ => self.step = WalkStep::Stopped(Stop::Failed),
         }
+    }
+}
+
+/// The directory that every path begins at.
+fn root() -> Entry
+    ensures { result ≡ root_entry }
+{
+    Entry {
+        gfid: Gfid(1),
+        what: What::Dir,
     }
 }
 

@@ -1,12 +1,12 @@
 //! The machine of one write, cut or change of an attribute: what it asks next, and what it makes of the answers.
-ghost use Rattle.std.specs.Prelude.{◌≡◌, ℕ, ◌<◌, ◌≤◌, IfOk, None, Ok, Some, false, true};
+ghost use Rattle.std.specs.Prelude.{◌≡◌, ℕ, ◌<◌, ◌≤◌, IfOk, None, Ok, OnErr, OnOk, Some, false, true};
 ghost use Rattle.afr_client_write.specs.Write.{CarriesNext, IsWrite, answered, choices_at, is_over, next_of, register_of, stage_begun, write_from};
 ghost use Rattle.afr_rule.specs.Choosing.{IsRule};
 ghost use Rattle.afr_client_walk.specs.Choosing.{RuleAnswers, reader_of};
 ghost use Rattle.afr_discipline.specs.Free.{Allows, is_ask};
 
 use crate::job::WriteJob;
-use crate::stage::{WriteStage, first, stage_begun, stage_heard};
+use crate::stage::{WriteStage, first, put_first, stage_begun, stage_heard};
 use afr_base::{BrickId, NameId, NoMemory, Shape};
 use afr_client_walk::{Walk, names_of};
 use afr_discipline::Register;
@@ -48,6 +48,24 @@ impl WriteMachine {
         let walk = Walk::along(shape, names_of(alloc, path)?);
         let stage = first(job, &walk);
         Ok(WriteMachine { alloc, walk, stage })
+    }
+
+    /// Another command begins in this one's place, for a machine is large. Only the names of its path take memory.
+    pub fn begin_again(
+        &mut self,
+        shape: Shape,
+        path: &[NameId],
+        job: WriteJob,
+    ) -> Result<(), NoMemory>
+        requires few { shape.n ≤ 5 }
+        requires some { 0 < shape.n }
+        ensures ok { OnOk result (self.new ≡ write_from shape path.now job) }
+        ensures err { OnErr result (self.new ≡ self.old) }
+    {
+        let names = names_of(self.alloc, path)?;
+        self.walk.begin_again(shape, names);
+        put_first(job, &self.walk, &mut self.stage);
+        Ok(())
     }
 
     /// Whom the next line asks, where it is a request; that is written where it is to stand.

@@ -1,8 +1,8 @@
 //! The stages of a write, and what an answer makes of each.
 ghost use Rattle.std.specs.Prelude.{◌≡◌, ◌<◌, ◌≤◌, false, not};
-ghost use Rattle.afr_client_write.specs.Job.{IsJob};
+ghost use Rattle.afr_client_write.specs.Job.{IsJob, change_of, is_empty};
 ghost use Rattle.afr_client_write.specs.Write.{IsWrite, after_walk, at_object, choices_at, first_stage, is_over, next_at, stage_after, stage_begun, walk_after};
-ghost use Rattle.afr_client_transaction.specs.Progress.{told_to};
+ghost use Rattle.afr_client_transaction.specs.Progress.{starting, told_to};
 ghost use Rattle.afr_lines.specs.Told.{told_by};
 ghost use Rattle.afr_lines.specs.declared.line.Next.{Next};
 ghost use Rattle.afr_object.specs.Tables.{is_dir};
@@ -10,12 +10,13 @@ ghost use Rattle.afr_client_transaction.specs.Progress as progress;
 ghost use Rattle.afr_client_transaction.specs.Sound.{IsUnused};
 ghost use Rattle.afr_rule.specs.Choosing.{IsRule};
 ghost use Rattle.afr_client_walk.specs.Choosing.{RuleAnswers, reader_of};
+ghost use Rattle.afr_client_walk.specs.Stops.{reply_of};
 ghost use Rattle.afr_client_walk.specs.Walk.{IsWalk, is_walking};
 
 use crate::job::{WriteJob, change_of, is_empty, is_of_bytes, is_too_large};
-use afr_base::{BrickId, What};
+use afr_base::{BrickId, Gfid, What};
 use afr_client_transaction::Transaction;
-use afr_client_walk::{Walk, WalkStep, stop_reply};
+use afr_client_walk::{Stop, Walk, WalkStep, stop_reply};
 use afr_discipline::Register;
 use afr_lines::{Answer, Good, KeptReply, Reply, Request};
 use afr_object::Entry;
@@ -32,21 +33,31 @@ pub enum WriteStage {
     Ending(KeptReply),
 }
 
-/// Where a write begins: what is too large ends before anything is asked.
+/// Where a write begins.
 pub(crate) fn first(job: WriteJob, walk: &Walk) -> WriteStage
     requires { IsWalk walk.now }
     ensures value { result ≡ first_stage job walk.now }
     ensures kept { IsWrite walk.now result }
 {
     let mut stage = ending(Reply::TooLarge);
-    if !is_too_large(&job) {
-        leave(job, walk, &mut stage);
-    }
+    put_first(job, walk, &mut stage);
     stage
 }
 
-/// Where a walk leaves the write. The stage is written in its place, since a transaction is large; it stands apart, so that
-/// only the answer that ends a walk pays for a frame that holds one.
+/// The same in the place of another stage: what is too large ends before anything is asked.
+pub(crate) fn put_first(job: WriteJob, walk: &Walk, stage: &mut WriteStage)
+    requires { IsWalk walk.now }
+    ensures value { stage.new ≡ first_stage job walk.now }
+    ensures kept { IsWrite walk.now stage.new }
+{
+    if is_too_large(&job) {
+        end(Reply::TooLarge, stage);
+    } else {
+        leave(job, walk, stage);
+    }
+}
+
+/// Where a walk leaves the write. The stage is written in its place, since a transaction is large.
 #[inline(never)]
 fn leave(job: WriteJob, walk: &Walk, stage: &mut WriteStage)
     requires walk { IsWalk walk.now }
@@ -55,10 +66,33 @@ fn leave(job: WriteJob, walk: &Walk, stage: &mut WriteStage)
     ensures kept { IsWrite walk.now stage.new }
 {
     match &walk.step {
-        WalkStep::Looking(_) | WalkStep::Naming(_) => *stage = WriteStage::Walking(job),
+        WalkStep::Looking(_) | WalkStep::Naming(_) => walk_on(job, stage),
         WalkStep::Arrived => arrive(job, walk.object, &walk.register, stage),
-        WalkStep::Stopped(stop) => *stage = WriteStage::Ending(stop_reply(stop)),
+        WalkStep::Stopped(why) => stop(why, stage),
     }
+}
+
+/// The path is walked. It stands apart, as the next two do and `begin_change`, so that only what comes to it pays for a frame
+/// that holds stages.
+#[inline(never)]
+fn walk_on(job: WriteJob, stage: &mut WriteStage)
+    ensures { stage.new ≡ WriteStage.Walking job }
+{
+    *stage = WriteStage::Walking(job);
+}
+
+#[inline(never)]
+fn stop(why: &Stop, stage: &mut WriteStage)
+    ensures { stage.new ≡ WriteStage.Ending (reply_of why.now) }
+{
+    *stage = WriteStage::Ending(stop_reply(why));
+}
+
+#[inline(never)]
+fn end(reply: Reply, stage: &mut WriteStage)
+    ensures { stage.new ≡ WriteStage.Ending reply }
+{
+    *stage = ending(reply);
 }
 
 fn ending(reply: Reply) -> WriteStage
@@ -75,14 +109,26 @@ fn arrive(job: WriteJob, object: Entry, register: &Register, stage: &mut WriteSt
     ensures { stage.new ≡ at_object object register.now job }
 {
     if is_of_bytes(&job) && is_directory(object.what) {
-        *stage = ending(Reply::IsDir);
+        end(Reply::IsDir, stage);
         return;
     }
     if is_empty(&job) {
-        *stage = ending(Reply::Ok(Good::Done));
+        end(Reply::Ok(Good::Done), stage);
         return;
     }
-    let change = change_of(object.gfid, job);
+    begin_change(job, object.gfid, register, stage);
+}
+
+#[inline(never)]
+fn begin_change(job: WriteJob, gfid: Gfid, register: &Register, stage: &mut WriteStage)
+    requires fits { IsJob job }
+    requires some { is_empty job ≡ false }
+    requires unused { IsUnused register.now }
+    requires few { register.now.shape.n ≤ 5 }
+    requires low { 0 < register.now.shape.n }
+    ensures { stage.new ≡ WriteStage.Changing (starting (change_of gfid job) register.now) }
+{
+    let change = change_of(gfid, job);
     *stage = WriteStage::Changing(Transaction::continuing(*register, change));
 }
 

@@ -3,7 +3,7 @@ ghost use Rattle.std.specs.Prelude.{◌≡◌, ◌+◌, ◌*◌, ◌≤◌, IfOk
 ghost use Rattle.afr_gen.specs.Generated as specs;
 
 use afr_base::{KeyId, NameId, NoMemory, ValueId};
-use afr_object::{Chunk, List};
+use afr_object::{Chunk, List, TryCopy};
 use afr_plan::{Command, NamePath, Script};
 use std::alloc::Global;
 
@@ -42,6 +42,8 @@ pub fn draw_script(
     ensures has_set { IfOk result (λ drawn. drawn.has_set ≡ specs.has_set n before n) }
     ensures last { IfOk result (λ drawn. drawn.last ≡ specs.drawn n (before * n + n)) }
 {
+    // All writes of a client share their bytes.
+    let block = block(alloc, before + 1)?;
     let mut script = List::new(alloc);
     let mut has_set = false;
     let mut last = from;
@@ -49,7 +51,7 @@ pub fn draw_script(
         let _ = k;
         last = next(last);
         let lot = last / 65_536;
-        script.push(command(alloc, before + 1, value, lot)?)?;
+        script.push(command(alloc, before + 1, &block, value, lot)?)?;
         has_set = has_set || sets(lot);
     }
     Ok(Drawn {
@@ -66,9 +68,15 @@ fn sets(lot: u32) -> bool
 }
 
 /// The command of a client at a lot: the low two bits say which, the next three the file, the next four the place in it.
-fn command(alloc: Global, client: u8, value: u32, lot: u32) -> Result<Command, NoMemory>
-    requires few { client ≤ 4 }
-    ensures ok { IfOk result (λ command. command ≡ specs.command client value lot) }
+fn command(
+    alloc: Global,
+    _client: u8,
+    block: &Chunk,
+    value: u32,
+    lot: u32,
+) -> Result<Command, NoMemory>
+    requires block { block.now ≡ specs.block _client }
+    ensures ok { IfOk result (λ command. command ≡ specs.command _client value lot) }
 {
     let path = make_path(alloc, lot)?;
     let at = lot / 32 % 16 * BLOCK;
@@ -85,7 +93,7 @@ fn command(alloc: Global, client: u8, value: u32, lot: u32) -> Result<Command, N
             len: BLOCK,
         })
     } else {
-        let bytes = block(alloc, client)?;
+        let bytes = block.copy()?;
         Ok(Command::Write { path, at, bytes })
     }
 }

@@ -1,3 +1,4 @@
 pub mod Front
 pub mod DataLemmas
 pub mod PathLemmas
+pub mod RunLemmas

@@ -52,11 +52,44 @@ fn is_text_byte(byte: u8) -> bool
     b' ' <= byte && byte <= b'~' && byte != b'"'
 }
 
-/// Whether no byte is other than from a space to a tilde.
+fn is_plain_byte(byte: u8) -> bool
+    ensures { result ≡ plain byte }
+{
+    b' ' <= byte && byte <= b'~'
+}
+
+/// Whether no byte is other than from a space to a tilde. Here and in the next two each byte is looked at, whatever those
+/// before it are, so that many are looked at in one step.
 pub fn is_plain(bytes: &[u8]) -> bool
     ensures { result ≡ list_all plain bytes.now }
 {
-    bytes.iter().all(|b| b' ' <= *b && *b <= b'~')
+    let mut all = true;
+    for b in bytes {
+        if !is_plain_byte(*b) {
+            all = false;
+        }
+    }
+    all
+}
+
+fn are_hex_digits(bytes: &[u8]) -> bool
+    ensures { result ≡ list_all spec.hex_digit bytes.now }
+{
+    let mut odd: u8 = 0;
+    for b in bytes {
+        odd = odd.max(u8::from(!is_hex_digit(*b)));
+    }
+    odd == 0
+}
+
+fn are_text_bytes(bytes: &[u8]) -> bool
+    ensures { result ≡ list_all text_byte bytes.now }
+{
+    let mut odd: u8 = 0;
+    for b in bytes {
+        odd = odd.max(u8::from(!is_text_byte(*b)));
+    }
+    odd == 0
 }
 
 /// Whether two words are the same.
@@ -104,12 +137,21 @@ fn key_len(bytes: &[u8]) -> usize
 fn text_len(bytes: &[u8]) -> usize
     ensures { result ≡ length (take_while text_byte bytes.now) }
 {
+    let count = bytes.len();
+    // Most texts are all that is left of a line but for its closing quote.
+    if count > 0 && bytes[count - 1] == b'"' && are_text_bytes(&bytes[..count - 1]) {
+        return count - 1;
+    }
     bytes.iter().take_while(|b| is_text_byte(**b)).count()
 }
 
 fn hex_len(bytes: &[u8]) -> usize
     ensures { result ≡ length (take_while spec.hex_digit bytes.now) }
 {
+    // Most digits are all that is left of a line.
+    if are_hex_digits(bytes) {
+        return bytes.len();
+    }
     bytes.iter().take_while(|b| is_hex_digit(**b)).count()
 }
 

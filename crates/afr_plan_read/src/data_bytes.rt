@@ -13,13 +13,20 @@ use std::alloc::Global;
 fn decoded(alloc: Global, digits: &[u8]) -> Result<Vec<u8>, NoMemory>
     ensures ok { IfOk result (λ v. v.items ≡ hex_bytes digits.now) }
 {
-    let mut bytes = Vec::with_capacity(alloc, digits.len() / 2)?;
-    let mut rest = digits;
-    while let [high, low, more @ ..] = rest {
-        bytes.push(hex_byte(*high, *low))?;
-        rest = more;
-    }
+    let mut bytes = Vec::new(alloc);
+    bytes.resize(digits.len() / 2, 0)?;
+    decode(bytes.as_mut_slice(), digits);
     Ok(bytes)
+}
+
+/// Writes the bytes of pairs of digits. Each stands by itself, so that many are made in one step.
+fn decode(bytes: &mut [u8], digits: &[u8])
+    requires { length bytes.old ≡ length digits.now / 2 }
+    ensures { bytes.new ≡ hex_bytes digits.now }
+{
+    for i in 0..bytes.len() {
+        bytes[i] = hex_byte(digits[2 * i], digits[2 * i + 1]);
+    }
 }
 
 /// The bytes that data stands for; fills share theirs.

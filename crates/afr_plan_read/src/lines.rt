@@ -16,6 +16,7 @@ use crate::totals::{LineCounts, counted, no_counts};
 use afr_base::NoMemory;
 use afr_plan::{PlanFault, PlanStop};
 use afr_plan_line::Spoken;
+use memchr::memchr;
 use std::alloc::Global;
 use std::marker::Model;
 
@@ -143,7 +144,7 @@ fn placed(places: &mut FaultPlaces, spoken: &Spoken) -> Result<(), NoMemory>
 fn feed(bytes: &[u8]) -> Option<usize>
     ensures { result ≡ position (λ b. b == 10) bytes.now }
 {
-    bytes.iter().position(|b| *b == b'\n')
+    memchr(b'\n', bytes)
 }
 
 /// The bytes before the first line feed, and those after it.

@@ -7,6 +7,7 @@ ghost use Rattle.afr_server.specs.Serving.{way_in};
 use crate::changes::{apply, mend, post, pre, settle};
 use crate::locks::{lock_name, lock_range};
 use crate::reads::{index, list, look, read_attr, read_attrs, read_bytes, read_name};
+use crate::said::say_done;
 use afr_base::{ActorId, NoMemory};
 use afr_brick::Brick;
 use afr_lines::{Answer, Area, Domain, Request};
@@ -112,5 +113,5 @@ fn unlock(
         Area::Range { gfid, from, to } => ranges.unlock(actor, domain, *gfid, *from, *to),
         Area::Name { gfid, name } => names.unlock(actor, domain, *gfid, *name),
     }
-    *answer = Answer::Done;
+    say_done(answer);
 }

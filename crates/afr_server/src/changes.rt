@@ -7,6 +7,7 @@ ghost use Rattle.afr_object.specs.Tables.{applied, copy_at, object_of};
 ghost use Rattle.afr_server.specs.Carried.{BrickCarries, CanApplyLoad};
 
 use crate::reads::absent;
+use crate::said::{say_absent, say_done};
 use afr_base::{BrickSet, Gfid, Kind, Marks, NoMemory};
 use afr_brick::Brick;
 use afr_lines::{Answer, Request};
@@ -18,8 +19,8 @@ pub(crate) fn pre(brick: &mut Brick, gfid: Gfid, kind: Kind, answer: &mut Answer
     ensures { (load : _) → BrickCarries (Request.Pre gfid kind) load brick.old brick.new answer.new }
 {
     match brick.pre(gfid, kind) {
-        Ok(()) => *answer = Answer::Done,
-        Err(_) => *answer = Answer::NoObject,
+        Ok(()) => say_done(answer),
+        Err(_) => say_absent(answer),
     }
 }
 
@@ -36,8 +37,8 @@ pub(crate) fn post(
     ensures { (load : _) → BrickCarries (Request.Post _attempt gfid kind missed) load brick.old brick.new answer.new }
 {
     match brick.post(gfid, kind, missed) {
-        Ok(()) => *answer = Answer::Done,
-        Err(_) => *answer = Answer::NoObject,
+        Ok(()) => say_done(answer),
+        Err(_) => say_absent(answer),
     }
 }
 
@@ -47,8 +48,8 @@ pub(crate) fn settle(brick: &mut Brick, gfid: Gfid, kind: Kind, less: &Marks, an
     ensures { (load : _) → BrickCarries (Request.Settle gfid kind less.now) load brick.old brick.new answer.new }
 {
     match brick.settle(gfid, kind, less) {
-        Ok(()) => *answer = Answer::Done,
-        Err(_) => *answer = Answer::NoObject,
+        Ok(()) => say_done(answer),
+        Err(_) => say_absent(answer),
     }
 }
 
@@ -66,7 +67,7 @@ pub(crate) fn apply(
     match load {
         Load::Change(change) => apply_change(brick, change, answer),
         _ => {
-            *answer = Answer::NoObject;
+            say_absent(answer);
             Ok(())
         }
     }
@@ -80,7 +81,7 @@ fn apply_change(brick: &mut Brick, change: &Change, answer: &mut Answer) -> Resu
 {
     match brick.apply(change) {
         Ok(()) => {
-            *answer = Answer::Done;
+            say_done(answer);
             Ok(())
         }
         Err(refused) => absent(refused, answer),
@@ -102,7 +103,7 @@ pub(crate) fn mend(
 {
     match brick.repair(repair, load) {
         Ok(()) => {
-            *answer = Answer::Done;
+            say_done(answer);
             Ok(())
         }
         Err(refused) => absent(refused, answer),

@@ -9,6 +9,7 @@ mod laws;
 mod locks;
 mod planned;
 mod reads;
+mod said;
 mod server;
 
 pub use laws::a_server_follows_its_log;

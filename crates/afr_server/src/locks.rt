@@ -6,6 +6,7 @@ ghost use Rattle.afr_lines.specs.Locks.{first_conflict};
 ghost use Rattle.afr_name_locks.specs.Names.{name_lock, overlap_dir_name};
 ghost use Rattle.afr_server.specs.Carried.{joined_by};
 
+use crate::said::{say_granted, say_held};
 use afr_base::{ActorId, Gfid, NameId, NoMemory};
 use afr_lines::{Answer, Domain};
 use afr_name_locks::NameLocks;
@@ -26,8 +27,8 @@ pub(crate) fn lock_range(
     ensures err { OnErr result (ranges.new ≡ ranges.old) }
 {
     match ranges.lock(owner, domain, gfid, from, to)? {
-        Got::Granted => *answer = Answer::Granted,
-        Got::Held(holder) => *answer = Answer::Held(holder),
+        Got::Granted => say_granted(answer),
+        Got::Held(holder) => say_held(answer, holder),
     }
     Ok(())
 }
@@ -45,8 +46,8 @@ pub(crate) fn lock_name(
     ensures err { OnErr result (names.new ≡ names.old) }
 {
     match names.lock(owner, domain, gfid, name)? {
-        Got::Granted => *answer = Answer::Granted,
-        Got::Held(other) => *answer = Answer::Held(other),
+        Got::Granted => say_granted(answer),
+        Got::Held(other) => say_held(answer, other),
     }
     Ok(())
 }

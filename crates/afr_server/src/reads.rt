@@ -2,6 +2,7 @@
 ghost use Rattle.std.specs.Prelude.{◌≡◌, OnOk, None, []};
 ghost use Rattle.afr_model.specs.Honest.{answer_by};
 
+use crate::said::{say_absent, show};
 use afr_base::{Gfid, KeyId, NameId, NoMemory};
 use afr_brick::{Brick, Refused};
 use afr_lines::{Answer, Request};
@@ -10,8 +11,8 @@ pub(crate) fn look(brick: &Brick, gfid: Gfid, answer: &mut Answer)
     ensures { answer.new ≡ answer_by None (Request.Look gfid) brick.now.objects [] }
 {
     match brick.look(gfid) {
-        Some(view) => *answer = Answer::Seen(view),
-        None => *answer = Answer::NoObject,
+        Some(view) => show(answer, view),
+        None => say_absent(answer),
     }
 }
 
@@ -38,7 +39,7 @@ pub(crate) fn read_name(brick: &Brick, gfid: Gfid, name: NameId, answer: &mut An
 {
     match brick.read_name(gfid, name) {
         Ok(entry) => *answer = Answer::Entry(entry),
-        Err(_) => *answer = Answer::NoObject,
+        Err(_) => say_absent(answer),
     }
 }
 
@@ -59,7 +60,7 @@ pub(crate) fn read_attr(brick: &Brick, gfid: Gfid, key: KeyId, answer: &mut Answ
 {
     match brick.read_attr(gfid, key) {
         Ok(value) => *answer = Answer::Value(value),
-        Err(_) => *answer = Answer::NoObject,
+        Err(_) => say_absent(answer),
     }
 }
 
@@ -89,7 +90,7 @@ pub(crate) fn absent(refused: Refused, answer: &mut Answer) -> Result<(), NoMemo
 {
     match refused {
         Refused::NoObject => {
-            *answer = Answer::NoObject;
+            say_absent(answer);
             Ok(())
         }
         Refused::NoMemory => Err(NoMemory),

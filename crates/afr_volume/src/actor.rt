@@ -11,7 +11,7 @@ ghost use Rattle.afr_client.specs.Work.{IsBusy, next_of};
 ghost use Rattle.afr_volume.specs.Acting.{CanStep, HasHeard, HearsBy, IsAsked, IsBegun, IsEnded, Stepped, Written, picked_after, still_picked};
 
 use afr_base::{ActorId, BrickId, NoMemory};
-use afr_client::WorkMachine;
+use afr_client::Work;
 use afr_law_fits::{fits_its_types, request_fits_its_types};
 use afr_lines::{Answer, Line, Next, Reply, Request};
 use afr_log::Log;
@@ -29,7 +29,7 @@ pub(crate) struct Actor {
     pub visit: Visit,
     /// What the read rule answered at the last look of the latest work.
     pub picked: Option<BrickId>,
-    pub work: WorkMachine,
+    pub work: Work,
 }
 
 /// One line of an actor whose work has begun, at the end of a log that has room for it. Its memory is taken before anything
@@ -234,7 +234,7 @@ fn ends(actor: &mut Actor, a: ActorId, reply: Reply, servers: &mut Servers, log:
     meets(actor, a, servers);
     actor.ended += 1;
     actor.visit.met = false;
-    actor.work = WorkMachine::Idle;
+    actor.work.rest();
     let line = Line::End { actor: a, reply };
     fits_its_types(&line);
     log.add(line);

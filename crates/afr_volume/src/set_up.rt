@@ -4,7 +4,7 @@ ghost use Rattle.afr_volume.specs.Starting.{AreNewActors};
 
 use crate::actor::Actor;
 use afr_base::NoMemory;
-use afr_client::WorkMachine;
+use afr_client::Work;
 use afr_servers::Visit;
 use std::alloc::Global;
 
@@ -19,7 +19,7 @@ pub(crate) fn all_actors(alloc: Global, clients: usize) -> Result<Vec<Actor>, No
             killed: false,
             visit: Visit::new(),
             picked: None,
-            work: WorkMachine::Idle,
+            work: Work::none(),
         })?;
     }
     Ok(actors)

@@ -7,16 +7,15 @@ ghost use Rattle.afr_healer.specs.Acting.{Adds};
 ghost use Rattle.afr_rule.specs.Choosing.{IsRule};
 ghost use Rattle.afr_volume.specs.Acting.{CanStep, HearsBy};
 ghost use Rattle.afr_volume.specs.Turning.{HasVictim, KillsIn, ReadiedAt, StepsAt};
-ghost use Rattle.afr_client.specs.Begin.{has_machine, work_from};
-ghost use Rattle.afr_client.specs.Work.{IsBusy, IsWork};
+ghost use Rattle.afr_client.specs.Begin.{has_machine};
+ghost use Rattle.afr_client.specs.Work.{IsBusy};
 
 use crate::actor::{Actor, step};
 use crate::turned::Turned;
-use afr_base::{ActorId, MOST_CLIENTS, NoMemory, Shape};
-use afr_client::{WorkMachine, work_for};
+use afr_base::{ActorId, MOST_CLIENTS, NoMemory};
 use afr_lines::Event;
 use afr_log::Log;
-use afr_plan::{Command, Plan};
+use afr_plan::Plan;
 use afr_rule::{Candidate, ReadRule};
 use afr_servers::{Exchange, Servers};
 use std::alloc::Global;
@@ -45,26 +44,7 @@ pub(crate) fn ready_actor(
     }
     let script = plan.clients.item(at);
     let command = script.item(actors[at].ended as usize);
-    begin_work(alloc, plan.shape, command, &mut actors[at].work)?;
-    Ok(())
-}
-
-/// The machine of a command that begins. It stands apart, so that only such turns pay for a frame that holds a whole machine.
-#[inline(never)]
-fn begin_work(
-    alloc: Global,
-    shape: Shape,
-    command: &Command,
-    work: &mut WorkMachine,
-) -> Result<(), NoMemory>
-    requires few { shape.n ≤ 5 }
-    requires some { 0 < shape.n }
-    requires has { has_machine command.now ≡ true }
-    ensures ok { OnOk result (work.new ≡ work_from shape command.now) }
-    ensures sound { OnOk result (IsWork work.new) }
-    ensures err { OnErr result (work.new ≡ work.old) }
-{
-    *work = work_for(alloc, shape, command)?;
+    actors[at].work.begin(alloc, plan.shape, command)?;
     Ok(())
 }
 

@@ -3,7 +3,7 @@ ghost use Rattle.std.specs.Prelude.{◌≡◌, true};
 ghost use Rattle.afr_client.specs.Begin.{has_machine};
 
 use afr_base::{AllMarks, BrickId, Gfid, KeyId, NameId, Shape, ValueId, What};
-use afr_client::{WorkMachine, work_for};
+use afr_client::Work;
 use afr_lines::{Answer, Good, Reply, Request};
 use afr_object::{Change, Entry, List, Load, View};
 use afr_plan::Command;
@@ -23,60 +23,68 @@ fn seen() -> Answer {
     })
 }
 
-fn on_three(alloc: Global, command: &Command) -> Option<WorkMachine>
+fn begins_on_three(work: &mut Work, alloc: Global, command: &Command) -> Option<()>
     requires { has_machine command.now ≡ true }
 {
     let shape = Shape {
         n: 3,
         arbiter: false,
     };
-    work_for(alloc, shape, command).ok()
+    work.begin(alloc, shape, command).ok()
+}
+
+fn on_three(alloc: Global, command: &Command) -> Option<Work>
+    requires { has_machine command.now ≡ true }
+{
+    let mut work = Work::none();
+    begins_on_three(&mut work, alloc, command)?;
+    Some(work)
 }
 
 /// Whom a work asks next, and for what.
-fn asked(work: &WorkMachine) -> Option<(BrickId, Request)> {
+fn asked(work: &Work) -> Option<(BrickId, Request)> {
     let mut request = Request::Index;
     let brick = work.asks(&mut request)?;
     Some((brick, request))
 }
 
 /// What it ends with, where its next line is the end.
-fn ends_with(work: &WorkMachine) -> Option<Reply> {
+fn ends_with(work: &Work) -> Option<Reply> {
     work.end().ok()?
 }
 
-fn hears_one(work: &mut WorkMachine, mut answer: Answer) {
+fn hears_one(work: &mut Work, mut answer: Answer) {
     let mut request = Request::Index;
     if let Some(brick) = work.asks(&mut request) {
         work.hear(brick, &request, &mut answer, 3, &ReadRule::new(first));
     }
 }
 
-fn all_done(work: &mut WorkMachine) {
+fn all_done(work: &mut Work) {
     hears_one(work, Answer::Done);
     hears_one(work, Answer::Done);
     hears_one(work, Answer::Done);
 }
 
-fn all_seen(work: &mut WorkMachine) {
+fn all_seen(work: &mut Work) {
     hears_one(work, seen());
     hears_one(work, seen());
     hears_one(work, seen());
 }
 
-fn all_granted(work: &mut WorkMachine) {
+fn all_granted(work: &mut Work) {
     hears_one(work, Answer::Granted);
     hears_one(work, Answer::Granted);
     hears_one(work, Answer::Granted);
 }
 
-fn begins(work: &mut WorkMachine) {
+fn begins(work: &mut Work) {
     if let Ok(Some(_)) = work.begins(10) {
         work.begun(10);
     }
 }
 
-fn carries_the_attribute(work: &WorkMachine) -> bool {
+fn carries_the_attribute(work: &Work) -> bool {
     matches!(
         work.load(),
         Load::Change(Change::SetAttr { gfid: ROOT, .. })
@@ -85,7 +93,7 @@ fn carries_the_attribute(work: &WorkMachine) -> bool {
 
 #[test]
 fn a_client_is_idle_at_first(rt: HostRuntime) {
-    let work = WorkMachine::Idle;
+    let work = Work::none();
     assert!(rt; work.is_idle());
     assert!(rt; matches!(asked(&work), None));
     assert!(rt; matches!(work.end(), Ok(Some(_))));
@@ -114,8 +122,35 @@ fn a_stat_looks_and_ends(rt: HostRuntime) {
     );
 }
 
+/// The same of a stat in the place of one that has ended.
+fn stat_after_another(alloc: Global) -> Option<((BrickId, Request), Reply)> {
+    let path = List::new(alloc);
+    let command = Command::Stat { path };
+    let mut work = on_three(alloc, &command)?;
+    all_seen(&mut work);
+    work.rest();
+    begins_on_three(&mut work, alloc, &command)?;
+    let first = asked(&work)?;
+    all_seen(&mut work);
+    let last = ends_with(&work)?;
+    Some((first, last))
+}
+
+#[test]
+fn a_stat_begins_in_the_place_of_another(rt: HostRuntime) {
+    assert!(rt;
+        matches!(
+            stat_after_another(rt.alloc()),
+            Some((
+                (BrickId(0), Request::Look { gfid: ROOT }),
+                Reply::Ok(Good::Stat { len: 5, .. })
+            ))
+        )
+    );
+}
+
 /// An attribute of the root on its way to every brick.
-fn attribute_of_the_root(alloc: Global) -> Option<WorkMachine> {
+fn attribute_of_the_root(alloc: Global) -> Option<Work> {
     let command = Command::SetAttr {
         path: List::new(alloc),
         key: KeyId(1),
@@ -125,7 +160,7 @@ fn attribute_of_the_root(alloc: Global) -> Option<WorkMachine> {
 }
 
 /// The operation, post-op and the unlocks are done everywhere.
-fn finishes(work: &mut WorkMachine) {
+fn finishes(work: &mut Work) {
     all_done(work);
     all_done(work);
     all_done(work);
@@ -157,7 +192,7 @@ fn the_file() -> Answer {
 }
 
 /// A file of the root, on its way to another name there.
-fn rename_in_the_root(alloc: Global) -> Option<WorkMachine> {
+fn rename_in_the_root(alloc: Global) -> Option<Work> {
     let mut from = List::new(alloc);
     from.push(NameId(7)).ok()?;
     let mut to = List::new(alloc);
@@ -166,7 +201,7 @@ fn rename_in_the_root(alloc: Global) -> Option<WorkMachine> {
 }
 
 /// A name is locked, read and attempted, and pre-op is done.
-fn attempted(work: &mut WorkMachine, told: Answer) {
+fn attempted(work: &mut Work, told: Answer) {
     all_granted(work);
     all_seen(work);
     hears_one(work, told);
@@ -174,7 +209,7 @@ fn attempted(work: &mut WorkMachine, told: Answer) {
     all_done(work);
 }
 
-fn makes_the_new_name(work: &WorkMachine) -> bool {
+fn makes_the_new_name(work: &Work) -> bool {
     matches!(
         work.load(),
         Load::Change(Change::Make {
@@ -186,7 +221,7 @@ fn makes_the_new_name(work: &WorkMachine) -> bool {
     )
 }
 
-fn removes_the_old_name(work: &WorkMachine) -> bool {
+fn removes_the_old_name(work: &Work) -> bool {
     matches!(
         work.load(),
         Load::Change(Change::Remove {

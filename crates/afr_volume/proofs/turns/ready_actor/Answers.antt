@@ -11,13 +11,13 @@ pub item-command-requires : goal.item-command-requires
 item-command-requires c =
     rw (← script_is c.args.plan.now c.args.a.0 c.item-script.result.now c.item-script.ensures) (c.requires.left c.index-2.result.now (found_at _ _ _ c.requires.within c.index-2.ensures))
 
-pub begin_work-requires-clause-has : goal.begin_work-requires-clause-has
-begin_work-requires-clause-has c =
+pub begin-requires-clause-has : goal.begin-requires-clause-has
+begin-requires-clause-has c =
     c.requires.commands c.index-2.result.now.ended c.item-command.result.now (rw (script_is c.args.plan.now c.args.a.0 c.item-script.result.now c.item-script.ensures) c.item-command.ensures)
 
 pub returns-clause-ok : goal.returns-clause-ok
 returns-clause-ok c =
-    begins_next c.args.plan.now c.args.a.0 c.args.actors.now.items c.index.result.now c.index-2.result.now c.index_mut.result.now c.item-script.result.now c.item-command.result.now c.begin_work.new.work c.requires.within c.index.ensures c.index-2.ensures c.index_mut.ensures.value
+    begins_next c.args.plan.now c.args.a.0 c.args.actors.now.items c.index.result.now c.index-2.result.now c.index_mut.result.now c.item-script.result.now c.item-command.result.now c.begin.new.self c.requires.within c.index.ensures c.index-2.ensures c.index_mut.ensures.value
     (sym c.is_idle.ensures ∙ c.if-not-is_idle.false) c.item-script.ensures c.item-command.ensures
     (c.requires.commands c.index-2.result.now.ended c.item-command.result.now (rw (script_is c.args.plan.now c.args.a.0 c.item-script.result.now c.item-script.ensures) c.item-command.ensures))
-    c.in_ok-begin_work.ensures.ok c.in_ok-begin_work.ensures.sound
+    c.in_ok-begin.ensures.ok c.in_ok-begin.ensures.sound

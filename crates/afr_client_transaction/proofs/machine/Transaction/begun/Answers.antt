@@ -18,4 +18,5 @@ invariant_of-self c = (
     kept = c.made_by.ensures ∙ ap (λ (q : Register). made_by q.begun c.self.inside.change) (sym c.note.ensures.value);
   },
   tt,
+  c.self.invariant.2,
 )

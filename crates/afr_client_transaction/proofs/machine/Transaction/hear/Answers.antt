@@ -29,6 +29,7 @@ invariant_of-self c = (
   rw c.met_another-self-inside.ensures (has_met (record { change = c.self.inside.change; register = c.self.inside.register; stage = c.self.inside.stage; asked = c.self.inside.asked }) c.args.at c.args.brick c.args.request.now
       (subst (λ (m : TransactionProgress). next_at m.stage c.args.at m ≡ next.Ask c.args.brick c.args.request.now) (sym c.self.view_is) c.requires.asked) c.self.invariant.0.sound c.args.told.now c.note.new.register c.after-self-inside.result c.asked_after-self-inside.result
       c.note.ensures.value c.note.ensures.shape c.asked_after-self-inside.ensures c.after-self-inside.ensures),
+  c.self.invariant.2,
 )
 
 pub returns : goal.returns

@@ -17,6 +17,7 @@ invariant_of-self c = (
     kept = at_beginning c.self.inside.stage c.self.inside.made _ (ap (λ (m : TransactionProgress). is_beginning m.stage) c.self.view_is ∙ c.requires.beginning);
   },
   tt,
+  c.self.invariant.2,
 )
 
 pub returns : goal.returns
