@@ -23,7 +23,7 @@ use afr_choice::{Looked, good};
 use afr_lines::{Line, Request, Told};
 use afr_object::Change;
 use afr_plan::Plan;
-use afr_trace_follow::object_of_area;
+use afr_trace_follow::{object_of_area, work_start};
 use afr_trace_tally::{change_of, is_end, is_of};
 
 // ---- the attempt
@@ -48,8 +48,9 @@ fn begun_by(log: &[Line], a: ActorId) -> Option<u32>
     requires { length log.now < 2147483648 }
     ensures { result ≡ begun_by (work a.0 (reverse log.now)) }
 {
+    let start = work_start(log, a);
     let mut begun = None;
-    for position in 0..log.len() {
+    for position in start..log.len() {
         begun = begun_more(a, &log[position], position as u32, begun);
     }
     begun
@@ -83,8 +84,9 @@ fn change_more<'a>(a: ActorId, line: &'a Line, was: Option<&'a Change>) -> Optio
 fn change_by(log: &[Line], a: ActorId) -> Option<&Change>
     ensures { option_copied result ≡ change_by (work a.0 (reverse log.now)) }
 {
+    let start = work_start(log, a);
     let mut found = None;
-    for position in 0..log.len() {
+    for position in start..log.len() {
         found = change_more(a, &log[position], found);
     }
     found
@@ -262,8 +264,9 @@ fn seen_by(log: &[Line], a: ActorId, g: Gfid) -> Looked
     requires { AreKnown (reverse log.now) }
     ensures { result ≡ looked_by g (after_last (locks_object g) (work a.0 (reverse log.now))) }
 {
+    let start = work_start(log, a);
     let mut looked = Looked::none();
-    for position in 0..log.len() {
+    for position in start..log.len() {
         looked = seen_more(a, g, &log[position], looked);
     }
     looked
@@ -336,9 +339,10 @@ fn refused_by(log: &[Line], a: ActorId) -> BrickSet
     requires { AreKnown (reverse log.now) }
     ensures { result ≡ among refusing (since asks_lock (work a.0 (reverse log.now))) }
 {
+    let start = work_start(log, a);
     let mut locked = false;
     let mut bricks = BrickSet::none();
-    for position in 0..log.len() {
+    for position in start..log.len() {
         bricks = refusing_more(a, &log[position], locked, bricks);
         locked = locked_more(a, &log[position], locked);
     }

@@ -54,8 +54,8 @@ healing_step a line older x was hb hh v = record {
   few = subst (λ (n : ℕ). n ≤ suc (length older)) (sym hh) (healed_few (is_of a line) (is_end line) line was.healed (length older) v.few);
 }
 
-pub none_healing : (a : ℕ) (x : Healing) → x.begun ≡ false → x.healed ≡ 0 → IsHealing a [] x
-none_healing a x hb hh = record { begun = hb; healed = hh; few = omega (arith, hh) }
+pub none_healing : (a : ℕ) (log : List Line) (x : Healing) → work a log ≡ [] → x.begun ≡ false → x.healed ≡ 0 → IsHealing a log x
+none_healing a log x none hb hh = record { begun = hb ∙ sym (ap has_line none); healed = hh ∙ sym (ap heals_ended none); few = omega (arith, hh) }
 
 -- the heal that is due, by what is kept
 pub due_is : (list : List (Gfid × What)) (a : ℕ) (log : List Line) (x : Healing) (due : Option (Gfid × Kind)) → IsHealing a log x → due ≡ nth_heal list x.healed → due ≡ due_in list (work a log)

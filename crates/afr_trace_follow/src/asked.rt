@@ -8,6 +8,7 @@ ghost use Rattle.afr_plan.specs.declared.plan.Plan.{Plan};
 ghost use Rattle.afr_trace_follow.specs.Asked.{AsksThere, IsAsked, IsFewAsked, asks_in, dir_in, dir_next, given_to, if_given};
 ghost use Rattle.afr_trace_tally.specs.Tally.{IsTally};
 
+use crate::parts::work_start;
 use crate::stand::begins_attempt;
 use afr_base::{ActorId, Gfid, What};
 use afr_lines::{Line, Request, Told};
@@ -186,8 +187,9 @@ pub(crate) fn asked_past(
     requires few { length log.now < 2147483648 }
     ensures { IsAsked plan.now (one + other) (work a.0 (reverse log.now)) result }
 {
+    let start = work_start(log, a);
     let mut asked = none_asked();
-    for position in 0..log.len() {
+    for position in start..log.len() {
         asked = asked_more(
             tally,
             plan,

@@ -382,7 +382,8 @@ fn has_moment(tally: &Tally, plan: &Plan, log: &[Line], lists: &Lists, line: &Li
 }
 
 /// Whether a line comes while the log has room, and is what the plan has for its moment: the next event, or a line of an actor that
-/// lives, of its present command or round, while no event is due. It takes as many steps as the log has lines.
+/// lives, of its present command or round, while no event is due. It takes as many steps as lines have come since the actor's present
+/// work began.
 pub fn is_following(tally: &Tally, plan: &Plan, log: &[Line], lists: &Lists, line: &Line) -> bool
     requires tally { IsTally plan.now (reverse log.now) tally.now }
     requires lists { AreLists plan.now (reverse log.now) lists.now }

@@ -16,4 +16,5 @@ mod stand;
 
 pub use following::is_following;
 pub use lists::Lists;
+pub use parts::work_start;
 pub use rounds::object_of_area;

@@ -12,6 +12,7 @@ ghost use Rattle.afr_trace_follow.specs.Healing.{IsHealing, is_index, nth_heal, 
 ghost use Rattle.afr_trace_follow.specs.Turns.{AsksIndex, HealsInTurn, KeepsToList};
 
 use crate::facts::{both, same_brick, same_gfid};
+use crate::parts::work_start;
 use afr_base::{ActorId, BrickId, Gfid, Kind, What};
 use afr_lines::{Area, Domain, Line, Request};
 use afr_trace_tally::{is_end, is_of};
@@ -102,11 +103,12 @@ fn heals_made(log: &[Line], a: ActorId) -> Healing
     requires { length log.now < 2147483648 }
     ensures { IsHealing a.0 (reverse log.now) result }
 {
+    let start = work_start(log, a);
     let mut healing = Healing {
         begun: false,
         healed: 0,
     };
-    for position in 0..log.len() {
+    for position in start..log.len() {
         healing = healing_more(a, &log[position], position, healing);
     }
     healing

@@ -115,8 +115,9 @@ pub(crate) fn stand_on(
     ensures at { (w : Work) → IsAt plan.now names w start → IsAt plan.now names (lines_from a.0 from (reverse (take upto log.now)) ++ w) result }
     ensures few { (n : ℕ) → IsFew n start → IsFew (n + upto) result }
 {
+    let first = from.min(upto);
     let mut stand = start;
-    for position in 0..upto {
+    for position in first..upto {
         stand = stand_more(
             tally,
             plan,

@@ -1,6 +1,6 @@
 -- What a brick's reads give is what stands in a cell.
 use Rattle.std.proofs.Common.{◌≡◌, ℕ, zero, suc, ◌+◌, ◌≤◌, ◌∙◌, List, [], ◌∷◌, Option, Some, None, length, refl, ap, sym, arith, take, drop, get_or}
-use Rattle.std.proofs.lemmas.List.{get_or-take, get_or-drop}
+use Rattle.std.proofs.lemmas.List.{get_or-take, get_or-drop, take_all}
 use Rattle.std.proofs.lemmas.Option.{same_Some}
 use Rattle.std.specs.Option.{option_map}
 use Rattle.std.specs.BTreeMap.{is_at}
@@ -52,6 +52,19 @@ byte_read g i (Some o) bytes h = ap IsByte (ap (byte_at 0) (sym (same_Some _ _ h
 
 pub byte_absent : (g : Gfid) (i : ℕ) (o : Option Object) → o ≡ None → IsByte 0 ≡ value_if (Byte g i) o
 byte_absent g i o h = rw h refl
+
+-- all of them
+pub bytes_read : (o : Option Object) (len : ℕ) (bytes : List ℕ) → len ≡ length (content_in o) → option_map (λ x. take len (drop 0 x.content)) o ≡ Some bytes → bytes ≡ content_in o
+bytes_read None len bytes e h = absurd (cc h)
+bytes_read (Some o) len bytes e h = sym (same_Some _ _ h) ∙ take_all len o.content (omega (arith, e))
+
+pub bytes_absent : (o : Option Object) → o ≡ None → [] ≡ content_in o
+bytes_absent o h = rw h refl
+
+-- one of them
+pub byte_value : (g : Gfid) (i : ℕ) (o : Option Object) → IsByte (byte_at i (content_in o)) ≡ value_if (Byte g i) o
+byte_value g i None = ap (λ (n : ℕ). IsByte n) (byte_past i [] (omega arith))
+byte_value g i (Some o) = refl
 
 -- ---- attributes and names
 pub attr_read : (g : Gfid) (key : KeyId) (o : Option Object) (value : Option ValueId) → option_map (λ x. lookup (is_at (key_cmp key)) x.attrs) o ≡ Some value → IsAttr value ≡ value_if (Attr g key) o

@@ -6,6 +6,7 @@ pub mod LoopLemmas
 pub mod OutsideLemmas
 pub mod PushLemmas
 pub mod QuorumLemmas
+pub mod RepliedLemmas
 pub mod SafeLemmas
 pub mod SameLemmas
 pub mod StandsLemmas

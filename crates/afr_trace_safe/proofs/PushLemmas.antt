@@ -17,7 +17,7 @@ pushed {A} f F step xs i d was now all low more h =
 
 -- ---- lines
 -- of the lines up to a position the one that stands there
-newest : (log : List Line) (at : ℕ) (line : Line) → at < length log → line ≡ get_or log at line → reverse (take (at + 1) log) ≡ line ∷ reverse (take at log)
+pub newest : (log : List Line) (at : ℕ) (line : Line) → at < length log → line ≡ get_or log at line → reverse (take (at + 1) log) ≡ line ∷ reverse (take at log)
 newest log at line l e =
     let next : at + 1 ≡ suc at = omega arith in
     let all : take (at + 1) log ≡ take at log ++ line ∷ [] = ap (λ (n : ℕ). take n log) next ∙ take-suc log at line l ∙ ap (λ (x : Line). take at log ++ x ∷ []) (sym e) in

@@ -1,9 +1,9 @@
 //! The first reply after an attempt, and whether it acknowledges the attempt.
-ghost use Rattle.std.specs.Prelude.{◌≡◌, reverse, slice_get};
+ghost use Rattle.std.specs.Prelude.{◌≡◌, None, nat_lt, reverse, slice_get, if◌then◌else◌};
 ghost use Rattle.std.specs.Option.{option_copied};
 ghost use Rattle.afr_lines.specs.Log.{from_oldest};
 ghost use Rattle.afr_lines.specs.Work.{reply_by};
-ghost use Rattle.afr_model.specs.Attempts.{earlier, first_reply};
+ghost use Rattle.afr_model.specs.Attempts.{first_reply};
 ghost use Rattle.afr_trace_safe.specs.Acknowledged.{begins_well, is_acknowledged, says_ok};
 
 use afr_base::ActorId;
@@ -34,31 +34,27 @@ fn reply_by(a: ActorId, line: &Line) -> Option<&Reply>
     }
 }
 
-/// The reply of the actor's first End line after a position.
+/// The same of a line after a position; nothing of one up to there.
+fn reply_after(a: ActorId, attempt: usize, position: usize, line: &Line) -> Option<&Reply>
+    ensures { option_copied result ≡ (if nat_lt attempt position then reply_by a.0 line.now else None) }
+{
+    if attempt < position {
+        reply_by(a, line)
+    } else {
+        None
+    }
+}
+
+/// The reply of the actor's first End line after a position. It walks no further than to that line.
 fn first_reply(log: &[Line], a: ActorId, attempt: usize) -> Option<&Reply>
     ensures { option_copied result ≡ first_reply a.0 attempt (reverse log.now) }
 {
-    let mut found = None;
-    let mut position = 0;
-    for line in log {
-        found = if attempt < position {
-            earlier(found, reply_by(a, line))
-        } else {
-            None
-        };
-        position += 1;
+    for position in attempt..log.len() {
+        if let Some(reply) = reply_after(a, attempt, position, &log[position]) {
+            return Some(reply);
+        }
     }
-    found
-}
-
-/// The older of two replies, where there is one.
-fn earlier<'a>(first: Option<&'a Reply>, later: Option<&'a Reply>) -> Option<&'a Reply>
-    ensures { option_copied result ≡ earlier (option_copied first.entry) (option_copied later.entry) }
-{
-    match first {
-        Some(reply) => Some(reply),
-        None => later,
-    }
+    None
 }
 
 /// Whether an attempt begins at the position, and its actor's first End line after it says ok.

@@ -51,7 +51,7 @@ fn keep_attempt(
     Ok(())
 }
 
-/// The attempts on an object, the newest first. It walks over the log once, and once more for each of them.
+/// The attempts on an object, the newest first. It walks over the log once, and from each of them to the End line after it.
 pub(crate) fn attempts_on(alloc: Global, log: &[Line], g: Gfid) -> Result<Vec<Attempt>, NoMemory>
     ensures { IfOk result (λ found. found.items ≡ attempts_on (reverse log.now) g (length log.now)) }
 {

@@ -3,14 +3,17 @@ ghost use Rattle.std.specs.Prelude.{◌≡◌, ◌↔◌, ◌<◌, [], true, Som
 ghost use Rattle.std.specs.Option.{option_copied};
 ghost use Rattle.afr_lines.specs.Log.{change_at};
 ghost use Rattle.afr_model.specs.Attempts.{IsCurrent};
-ghost use Rattle.afr_model.specs.Cells.{object_of_cell};
+ghost use Rattle.afr_model.specs.Cells.{Byte, object_of_cell};
+ghost use Rattle.afr_model.specs.Tables.{content_in};
+ghost use Rattle.afr_object.specs.Tables.{copy_at};
+ghost use Rattle.afr_trace_tables.specs.Plain.{plain_tables};
 ghost use Rattle.afr_trace_safe.specs.Attempts.{attempts_on, is_on};
 ghost use Rattle.afr_trace_safe.specs.Covered.{AreBytesCurrent, AreKeysCurrent, AreNamesCurrent, AreTouchedCurrent, IsTouchedCurrent, touched_in};
 ghost use Rattle.afr_trace_safe.specs.Seen.{cell_of};
 ghost use Rattle.afr_trace_tally.specs.Tally.{IsTally};
 
 use crate::attempts::{Attempt, stands};
-use crate::cell::{Cell, same_value};
+use crate::cell::{Cell, Value, byte_at, same_value};
 use crate::value::value_on;
 use afr_base::{BrickId, Gfid, KeyId, Kind, NameId, NoMemory, ValueId};
 use afr_lines::Line;
@@ -45,30 +48,52 @@ fn is_current(
 
 // ---- bytes
 
-/// Whether the bytes of a file below an end are current.
-pub(crate) fn are_bytes_current(
-    first: &Tally,
-    tally: &Tally,
+/// Whether the byte at a place of a file is current, given the bytes that a brick has of it and those that it had at the start.
+fn is_byte_current(
     plan: &Plan,
     log: &[Line],
     attempts: &[Attempt],
     g: Gfid,
     b: BrickId,
-    end: usize,
-) -> Result<bool, NoMemory>
-    requires first { IsTally plan.now [] first.now }
-    requires tally { IsTally plan.now (reverse log.now) tally.now }
+    here: &[u8],
+    opened: &[u8],
+    place: usize,
+) -> bool
     requires attempts { attempts.now ≡ attempts_on (reverse log.now) g (length log.now) }
-    requires brick { b.0 < 5 }
-    ensures { IfOk result (λ yes. (yes ≡ true) ↔ AreBytesCurrent plan.now (reverse log.now) b.0 g end) }
+    requires here { here.now ≡ content_in (copy_at g ((plain_tables plan.now (reverse log.now)).now b.0)) }
+    requires opened { opened.now ≡ content_in (copy_at g ((plain_tables plan.now []).now b.0)) }
+    ensures { (result ≡ true) ↔ IsCurrent plan.now (reverse log.now) b.0 (Byte g place) }
+{
+    let _plan = plan;
+    let _b = b;
+    let value = Value::Byte(byte_at(here, place));
+    let opening = Value::Byte(byte_at(opened, place));
+    let same = same_value(value, opening);
+    stands(log, attempts, Cell::Byte(g, place), value, same)
+}
+
+/// Whether the bytes of a file below an end are current.
+pub(crate) fn are_bytes_current(
+    plan: &Plan,
+    log: &[Line],
+    attempts: &[Attempt],
+    g: Gfid,
+    b: BrickId,
+    here: &[u8],
+    opened: &[u8],
+    end: usize,
+) -> bool
+    requires attempts { attempts.now ≡ attempts_on (reverse log.now) g (length log.now) }
+    requires here { here.now ≡ content_in (copy_at g ((plain_tables plan.now (reverse log.now)).now b.0)) }
+    requires opened { opened.now ≡ content_in (copy_at g ((plain_tables plan.now []).now b.0)) }
+    ensures { (result ≡ true) ↔ AreBytesCurrent plan.now (reverse log.now) b.0 g end }
 {
     for i in 0..end {
-        let yes = is_current(first, tally, plan, log, attempts, g, b, Cell::Byte(g, i))?;
-        if !yes {
-            return Ok(false);
+        if !is_byte_current(plan, log, attempts, g, b, here, opened, i) {
+            return false;
         }
     }
-    Ok(true)
+    true
 }
 
 // ---- attributes and names

@@ -7,7 +7,7 @@ ghost use Rattle.afr_trace_tally.specs.Tally.{IsTally};
 use crate::attempts::{Attempt, furthest};
 use crate::copies::is_judged;
 use crate::current::{are_bytes_current, are_keys_current, are_names_current, are_touched_current};
-use crate::value::{attrs_of, len_of, names_of};
+use crate::value::{attrs_of, bytes_of, names_of};
 use afr_base::{BrickId, Gfid, Kind, NoMemory};
 use afr_lines::Line;
 use afr_plan::Plan;
@@ -16,6 +16,7 @@ use std::alloc::Global;
 
 /// Whether all bytes of a file are current: those past its end and past each write are 0 everywhere, and a cut leaves 0.
 fn all_bytes_current(
+    alloc: Global,
     first: &Tally,
     tally: &Tally,
     plan: &Plan,
@@ -30,10 +31,12 @@ fn all_bytes_current(
     requires brick { b.0 < 5 }
     ensures { IfOk result (λ yes. (yes ≡ true) ↔ AllCurrent plan.now (reverse log.now) b.0 g Kind.Bytes) }
 {
-    let here = len_of(tally.tables(plan, log, b), g);
-    let opened = len_of(first.tables(plan, &log[..0], b), g);
-    let end = furthest(log, attempts, here.max(opened) as usize);
-    let yes = are_bytes_current(first, tally, plan, log, attempts, g, b, end)?;
+    let bytes = bytes_of(alloc, tally.tables(plan, log, b), g)?;
+    let opening = bytes_of(alloc, first.tables(plan, &log[..0], b), g)?;
+    let here = bytes.as_slice();
+    let opened = opening.as_slice();
+    let end = furthest(log, attempts, here.len().max(opened.len()));
+    let yes = are_bytes_current(plan, log, attempts, g, b, here, opened, end);
     Ok(yes)
 }
 
@@ -111,7 +114,7 @@ fn all_current(
     ensures { IfOk result (λ yes. (yes ≡ true) ↔ AllCurrent plan.now (reverse log.now) b.0 g kind) }
 {
     match kind {
-        Kind::Bytes => all_bytes_current(first, tally, plan, log, attempts, g, b),
+        Kind::Bytes => all_bytes_current(alloc, first, tally, plan, log, attempts, g, b),
         Kind::Attrs => all_attrs_current(alloc, first, tally, plan, log, attempts, g, b),
         Kind::Names => all_names_current(alloc, first, tally, plan, log, attempts, g, b),
     }

@@ -13,7 +13,7 @@ use std::alloc::Global;
 
 /// Whether each cell of each good copy of any majority is current after a log, given the tally before its first line, the one after its
 /// last, and the objects that its last line touches; before that line it was so. For each of these objects it walks over the log once,
-/// and once more for each attempt on the object, and takes a step for each cell of it on each brick and each attempt.
+/// and from each attempt on the object to the End line after it, and takes a step for each cell of it on each brick and each attempt.
 pub fn is_safe(
     alloc: Global,
     first: &Tally,

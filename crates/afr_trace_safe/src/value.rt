@@ -8,19 +8,32 @@ ghost use Rattle.afr_trace_safe.specs.Seen.{cell_of, value_seen};
 use crate::cell::{Cell, Value, byte_at};
 use afr_base::{Gfid, KeyId, NameId, NoMemory};
 use afr_brick::{Brick, Refused};
-use afr_object::{AttrList, List, NameList};
+use afr_object::{AttrList, Chunk, List, NameList};
 use std::alloc::Global;
 
 // ---- one cell
 
 /// How many bytes a brick has of a file.
 #[tactic(auto, using(crate::proofs::CopyLemmas::len_seen, crate::proofs::CopyLemmas::len_absent))]
-pub(crate) fn len_of(brick: &Brick, g: Gfid) -> u32
+fn len_of(brick: &Brick, g: Gfid) -> u32
     ensures { result ≡ length (content_in (copy_at g brick.now.objects)) }
 {
     match brick.look(g) {
         Some(view) => view.len,
         None => 0,
+    }
+}
+
+/// All bytes that a brick has of a file.
+#[tactic(auto, using(crate::proofs::CopyLemmas::bytes_read, crate::proofs::CopyLemmas::bytes_absent))]
+pub(crate) fn bytes_of(alloc: Global, brick: &Brick, g: Gfid) -> Result<Chunk, NoMemory>
+    ensures { IfOk result (λ bytes. bytes ≡ content_in (copy_at g brick.now.objects)) }
+{
+    let len = len_of(brick, g);
+    match brick.read_bytes(g, 0, len) {
+        Ok(bytes) => Ok(bytes),
+        Err(Refused::NoObject) => Ok(Chunk::new(alloc)),
+        Err(Refused::NoMemory) => Err(NoMemory),
     }
 }
 

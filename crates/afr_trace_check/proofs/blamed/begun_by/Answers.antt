@@ -1,8 +1,12 @@
-use Rattle.std.proofs.Common.{refl, arith, ◌∙◌, reverse, take}
+use Rattle.std.proofs.Common.{refl, arith, ◌∙◌, reverse, take, sym, ap}
 use Rattle.afr_lines.specs.Work.{work}
 use Rattle.afr_model.specs.Showing.{begun_after, begun_by}
 use Rattle.afr_trace_check.proofs.WorkLemmas.{length_before, whole, work_next}
+use Rattle.afr_trace_follow.proofs.PartLemmas.{work_from}
 use Rattle.afr_trace_check.proofs.blamed.begun_by.Goals as goal
+
+pub loop-position-init : goal.loop-position-init
+loop-position-init c = sym (ap begun_by (work_from c.args.a.0 c.work_start-start.result c.args.log.now c.work_start-start.ensures))
 
 pub loop-position-preserved : goal.loop-position-preserved
 loop-position-preserved c =

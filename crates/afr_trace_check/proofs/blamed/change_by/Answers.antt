@@ -1,10 +1,14 @@
-use Rattle.std.proofs.Common.{refl, arith, ◌∙◌}
+use Rattle.std.proofs.Common.{refl, arith, ◌∙◌, sym, ap}
 use Rattle.std.specs.Option.{option_copied}
 use Rattle.afr_lines.specs.Log.{change_of}
 use Rattle.afr_lines.specs.Work.{work}
 use Rattle.afr_model.specs.Standing.{change_after, change_by}
 use Rattle.afr_trace_check.proofs.WorkLemmas.{whole, work_next}
+use Rattle.afr_trace_follow.proofs.PartLemmas.{work_from}
 use Rattle.afr_trace_check.proofs.blamed.change_by.Goals as goal
+
+pub loop-position-init : goal.loop-position-init
+loop-position-init c = sym (ap change_by (work_from c.args.a.0 c.work_start-start.result c.args.log.now c.work_start-start.ensures))
 
 pub loop-position-preserved : goal.loop-position-preserved
 loop-position-preserved c =

@@ -1,10 +1,14 @@
-use Rattle.std.proofs.Common.{refl, arith, ◌∙◌}
-use Rattle.afr_lines.specs.Work.{work}
+use Rattle.std.proofs.Common.{refl, arith, ◌∙◌, sym, ap}
+use Rattle.afr_lines.specs.Work.{Work, work}
 use Rattle.afr_model.specs.Showing.{looked_after, looked_by}
 use Rattle.afr_trace_check.specs.Grounds.{after_last, locks_object}
 use Rattle.afr_trace_check.proofs.WorkLemmas.{after_next, whole}
 use Rattle.afr_trace_tally.proofs.LogLemmas.{known_at}
+use Rattle.afr_trace_follow.proofs.PartLemmas.{work_from}
 use Rattle.afr_trace_check.proofs.blamed.seen_by.Goals as goal
+
+pub loop-position-init : goal.loop-position-init
+loop-position-init c = c.none-looked.ensures ∙ sym (ap (λ (w : Work). looked_by c.args.g (after_last (locks_object c.args.g) w)) (work_from c.args.a.0 c.work_start-start.result c.args.log.now c.work_start-start.ensures))
 
 pub seen_more-looked-requires : goal.seen_more-looked-requires
 seen_more-looked-requires c = known_at c.args.log.now c.loop-position.position c.index-log-position.result c.loop-position-test.true c.index-log-position.is c.requires
