@@ -1,13 +1,36 @@
 //! Answers, and the ends of heals and commands.
-ghost use Rattle.std.specs.Prelude.{◌≡◌, codes};
+ghost use Rattle.std.specs.Prelude.{◌≡◌, IfNone, IfSome, Some, codes, map};
 ghost use Rattle.std.specs.Option.{option_map};
-ghost use Rattle.afr_plan.specs.Reading.{as_a, word_then};
+ghost use Rattle.afr_plan.specs.Reading as plain;
+ghost use Rattle.afr_plan.specs.Reading.{Reader, as_a, word_then};
+ghost use Rattle.afr_trace_read.specs.Forms.{one_of_or, said};
 ghost use Rattle.afr_trace_read.specs.Parts.{actor_at, brick_at};
 ghost use Rattle.afr_trace_read.specs.Reading.{answered_at, healed_at, is_ok, replied_at};
 
 use crate::kinds::{Answered, Healed, SpelledReply};
 use crate::parts::{actor, brick};
 use afr_plan_line::skip;
+
+/// The first of some words that stands at the front, by what it stands for, and what follows it.
+fn one_of<'a, T: Copy>(words: &[(&[u8], T)], bytes: &'a [u8]) -> Option<(T, &'a [u8])>
+    ensures some { IfSome result (λ x. (q : Reader T) → one_of_or (map said words.now) q bytes.now ≡ Some (x.0, x.1.now)) }
+    ensures none { IfNone result ((q : Reader T) → one_of_or (map said words.now) q bytes.now ≡ q bytes.now) }
+{
+    for (word, value) in words {
+        if let Some(rest) = skip(*word, bytes) {
+            return Some((*value, rest));
+        }
+    }
+    None
+}
+
+/// A word, by what it stands for, and what follows it.
+fn one_word<'a, T: Copy>(word: &[u8], value: T, bytes: &'a [u8]) -> Option<(T, &'a [u8])>
+    ensures { option_map (λ x. (x.0, x.1.now)) result ≡ plain.word word.now value bytes.now }
+{
+    let rest = skip(word, bytes)?;
+    Some((value, rest))
+}
 
 fn held(bytes: &[u8]) -> Option<(Answered, &[u8])>
     ensures { option_map (λ x. (x.0, x.1.now)) result ≡ as_a Answered.Held (word_then (codes "held ") actor_at) bytes.now }
@@ -98,41 +121,23 @@ pub(crate) fn healed(bytes: &[u8]) -> Option<(Healed, &[u8])>
 pub(crate) fn replied(bytes: &[u8]) -> Option<(SpelledReply, &[u8])>
     ensures { option_map (λ x. (x.0, x.1.now)) result ≡ replied_at bytes.now }
 {
-    if let Some(rest) = skip(b"ok", bytes) {
-        return Some((SpelledReply::Ok, rest));
+    let words: [(&[u8], SpelledReply); 11] = [
+        (b"ok", SpelledReply::Ok),
+        (b"no-entry", SpelledReply::NoEntry),
+        (b"exists", SpelledReply::Exists),
+        (b"not-dir", SpelledReply::NotDir),
+        (b"is-dir", SpelledReply::IsDir),
+        (b"not-empty", SpelledReply::NotEmpty),
+        (b"no-quorum", SpelledReply::NoQuorum),
+        (b"few-copies", SpelledReply::FewCopies),
+        (b"split-brain", SpelledReply::SplitBrain),
+        (b"failed", SpelledReply::Failed),
+        (b"too-large", SpelledReply::TooLarge),
+    ];
+    match one_of(&words, bytes) {
+        Some(x) => Some(x),
+        None => one_word(b"half", SpelledReply::Half, bytes),
     }
-    if let Some(rest) = skip(b"no-entry", bytes) {
-        return Some((SpelledReply::NoEntry, rest));
-    }
-    if let Some(rest) = skip(b"exists", bytes) {
-        return Some((SpelledReply::Exists, rest));
-    }
-    if let Some(rest) = skip(b"not-dir", bytes) {
-        return Some((SpelledReply::NotDir, rest));
-    }
-    if let Some(rest) = skip(b"is-dir", bytes) {
-        return Some((SpelledReply::IsDir, rest));
-    }
-    if let Some(rest) = skip(b"not-empty", bytes) {
-        return Some((SpelledReply::NotEmpty, rest));
-    }
-    if let Some(rest) = skip(b"no-quorum", bytes) {
-        return Some((SpelledReply::NoQuorum, rest));
-    }
-    if let Some(rest) = skip(b"few-copies", bytes) {
-        return Some((SpelledReply::FewCopies, rest));
-    }
-    if let Some(rest) = skip(b"split-brain", bytes) {
-        return Some((SpelledReply::SplitBrain, rest));
-    }
-    if let Some(rest) = skip(b"failed", bytes) {
-        return Some((SpelledReply::Failed, rest));
-    }
-    if let Some(rest) = skip(b"too-large", bytes) {
-        return Some((SpelledReply::TooLarge, rest));
-    }
-    let rest = skip(b"half", bytes)?;
-    Some((SpelledReply::Half, rest))
 }
 
 /// Whether a reply says that the command was carried out.
