@@ -1,4 +1,4 @@
-//! The log that a trace builds, each line by the tally of the lines before it.
+//! What is found of a trace, and the log that it builds, each line by the tally of the lines before it.
 ghost use Rattle.std.specs.Prelude.{◌≡◌, ◌≤◌, ◌<◌, ◌∷◌, OnOk, IfOk, length, reverse, true};
 ghost use Rattle.afr_trace_tally.specs.Tally.{AsksKnown, IsTally};
 
@@ -6,7 +6,7 @@ use afr_lines::Line;
 use afr_plan::Plan;
 use afr_plan_read::read_plan;
 use afr_trace_build::Filled;
-use afr_trace_check::filled;
+use afr_trace_check::{CheckStop, Finding, check, filled};
 use afr_trace_read::{SpelledLine, read_trace};
 use afr_trace_tally::{Tally, asks_known};
 use std::alloc::Global;
@@ -32,6 +32,17 @@ pub fn plan_of(alloc: Global, text: &str) -> Result<Plan, Fail>
         return Ok(plan);
     }
     Err("the plan is too large".into())
+}
+
+/// Whether this is found of the trace of a plan.
+pub fn is_found(
+    alloc: Global,
+    plan: &str,
+    trace: &str,
+    want: Result<Finding, CheckStop>,
+) -> Result<bool, Fail> {
+    let plan = plan_of(alloc, plan)?;
+    Ok(check(alloc, &plan, trace.as_bytes()) == want)
 }
 
 /// The first lines of a text, and another line behind them.

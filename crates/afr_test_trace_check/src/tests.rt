@@ -1,6 +1,6 @@
 //! What is found of the trace of a run, and of others that differ from it in one line.
-use crate::built::plan_of;
-use afr_trace_check::{Finding, Rule, check};
+use crate::built::is_found;
+use afr_trace_check::{Finding, Rule};
 use std::alloc::Global;
 use std::test::Fail;
 
@@ -65,19 +65,21 @@ const LAST: &str = "\
 34 c2 end ok -
 ";
 
-/// What is found of the trace with these two lines between its parts.
-fn found(alloc: Global, eighth: &str, other: &str) -> Result<Finding, Fail> {
-    let plan = plan_of(alloc, PLAN)?;
+/// The trace with these two lines between its parts.
+fn trace_with(alloc: Global, eighth: &str, other: &str) -> Result<String, Fail> {
     let mut text = String::new(alloc);
     text.push_str(FIRST)?;
     text.push_str(eighth)?;
     text.push_str(NEXT)?;
     text.push_str(other)?;
     text.push_str(LAST)?;
-    match check(alloc, &plan, text.as_str().as_bytes()) {
-        Ok(found) => Ok(found),
-        Err(_) => Err("the trace isn't checked".into()),
-    }
+    Ok(text)
+}
+
+/// Whether this is found of it.
+fn finds(alloc: Global, eighth: &str, other: &str, want: Finding) -> Result<bool, Fail> {
+    let trace = trace_with(alloc, eighth, other)?;
+    is_found(alloc, PLAN, trace.as_str(), Ok(want))
 }
 
 /// Two lines, and what is found of the trace with them: it is right; an event comes early; a brick that is up loses no
@@ -130,8 +132,8 @@ const CASES: [(&str, &str, Finding); 6] = [
 #[test]
 fn a_trace_is_right_or_breaks_a_rule_at_its_line(rt: HostRuntime) -> Result<(), Fail> {
     for (eighth, other, want) in CASES {
-        let found = found(rt.alloc(), eighth, other)?;
-        assert!(rt; found == want, "{eighth} {other}");
+        let found = finds(rt.alloc(), eighth, other, want)?;
+        assert!(rt; found, "{eighth} {other}");
     }
     Ok(())
 }

@@ -1,27 +1,43 @@
 //! Worked traces are right whole and keep the discipline; a line that breaks a rule is found. A plan past the limit isn't checked.
 
-use crate::built::{ended_by, log_of, plan_of};
+use crate::built::{ended_by, is_found, log_of, plan_of};
 use crate::worked::{
     lost_answer, lost_answer_trace, moved, moved_trace, write_and_read, write_and_read_trace,
 };
-use afr_trace_check::{CheckStop, Finding, Rule, check};
+use afr_trace_check::{CheckStop, Finding, Rule};
 use afr_trace_moves::{first_unlawful, makes_new_alone};
 use std::alloc::Global;
 use std::test::Fail;
 
-/// What is found of the trace of a plan.
-fn found(alloc: Global, plan: &str, trace: &str) -> Result<Result<Finding, CheckStop>, Fail> {
-    let plan = plan_of(alloc, plan)?;
-    Ok(check(alloc, &plan, trace.as_bytes()))
-}
-
 #[test]
 fn a_worked_trace_keeps_every_rule(rt: HostRuntime) -> Result<(), Fail> {
-    let write = found(rt.alloc(), write_and_read(), write_and_read_trace())?;
-    assert!(rt; write == Ok(Finding::Yes(33)));
-    let heal = found(rt.alloc(), lost_answer(), lost_answer_trace())?;
-    assert!(rt; heal == Ok(Finding::Yes(88)));
+    let write = is_found(
+        rt.alloc(),
+        write_and_read(),
+        write_and_read_trace(),
+        Ok(Finding::Yes(33)),
+    )?;
+    assert!(rt; write);
+    let heal = is_found(
+        rt.alloc(),
+        lost_answer(),
+        lost_answer_trace(),
+        Ok(Finding::Yes(88)),
+    )?;
+    assert!(rt; heal);
     Ok(())
+}
+
+/// Whether the trace of the heal, with this line behind its first ones, follows its plan up to this line.
+fn stops_following(alloc: Global, line: u32, last: &str) -> Result<bool, Fail> {
+    let trace = ended_by(alloc, lost_answer_trace(), line as usize, last)?;
+    let rule = Rule::Follows;
+    is_found(
+        alloc,
+        lost_answer(),
+        trace.as_str(),
+        Ok(Finding::No { line, rule }),
+    )
 }
 
 /// A name in another directory or asked once more, another brick's index, another object's lock, and another heal.
@@ -35,10 +51,8 @@ fn what_the_plan_does_not_have_is_found(rt: HostRuntime) -> Result<(), Fail> {
         ("24 h1 b1 lock heal g1[0,end) lost", 24),
         ("29 h1 begin heal data f1", 29),
     ] {
-        let trace = ended_by(rt.alloc(), lost_answer_trace(), line as usize, text)?;
-        let other = found(rt.alloc(), lost_answer(), trace.as_str())?;
-        let rule = Rule::Follows;
-        assert!(rt; other == Ok(Finding::No { line, rule }), "{text}");
+        let stops = stops_following(rt.alloc(), line, text)?;
+        assert!(rt; stops, "{text}");
     }
     Ok(())
 }
@@ -49,8 +63,7 @@ fn is_past_limit(alloc: Global, command: &str) -> Result<bool, Fail> {
     plan.push_str("afr 1\nvolume replica\nfiles 1\nturns 100\nclient 1\n")?;
     plan.push_str(command)?;
     plan.push_str("\nend\n")?;
-    let found = found(alloc, plan.as_str(), "")?;
-    Ok(found == Err(CheckStop::Limit))
+    is_found(alloc, plan.as_str(), "", Err(CheckStop::Limit))
 }
 
 #[test]
@@ -76,39 +89,40 @@ fn breaks_at(alloc: Global, plan: &str, trace: &str, at: usize, new: bool) -> Re
     Ok(makes_new_alone(log.as_slice()) == new && first == Ok(at))
 }
 
+/// The same of the first lines of a trace, with another line behind them.
+fn ended_breaks_at(
+    alloc: Global,
+    plan: &str,
+    trace: &str,
+    lines: usize,
+    last: &str,
+    at: usize,
+    new: bool,
+) -> Result<bool, Fail> {
+    let trace = ended_by(alloc, trace, lines, last)?;
+    breaks_at(alloc, plan, trace.as_str(), at, new)
+}
+
 #[test]
 fn each_line_of_a_worked_trace_keeps_the_discipline(rt: HostRuntime) -> Result<(), Fail> {
-    let write = breaks_at(
-        rt.alloc(),
-        write_and_read(),
-        write_and_read_trace(),
-        33,
-        true,
-    )?;
+    let plan = write_and_read();
+    let write = breaks_at(rt.alloc(), plan, write_and_read_trace(), 33, true)?;
     assert!(rt; write);
     let heal = breaks_at(rt.alloc(), lost_answer(), lost_answer_trace(), 88, true)?;
     assert!(rt; heal);
     Ok(())
 }
 
+/// A command that closes its write at one brick, and a heal that takes back what it hasn't seen.
 #[test]
-fn a_command_that_closes_its_write_at_one_brick_breaks_the_discipline(
-    rt: HostRuntime,
-) -> Result<(), Fail> {
-    let trace = ended_by(rt.alloc(), write_and_read_trace(), 18, "18 c1 end ok")?;
-    let broken = breaks_at(rt.alloc(), write_and_read(), trace.as_str(), 18, true)?;
-    assert!(rt; broken);
-    Ok(())
-}
-
-#[test]
-fn a_heal_that_takes_back_what_it_has_not_seen_breaks_the_discipline(
-    rt: HostRuntime,
-) -> Result<(), Fail> {
+fn a_line_that_breaks_the_discipline_is_found(rt: HostRuntime) -> Result<(), Fail> {
+    let (plan, trace) = (write_and_read(), write_and_read_trace());
+    let write = ended_breaks_at(rt.alloc(), plan, trace, 18, "18 c1 end ok", 18, true)?;
+    assert!(rt; write);
+    let (plan, trace) = (lost_answer(), lost_answer_trace());
     let more = "78 h1 b1 settle f1 data 1 0 0 2 done";
-    let trace = ended_by(rt.alloc(), lost_answer_trace(), 78, more)?;
-    let broken = breaks_at(rt.alloc(), lost_answer(), trace.as_str(), 78, true)?;
-    assert!(rt; broken);
+    let heal = ended_breaks_at(rt.alloc(), plan, trace, 78, more, 78, true)?;
+    assert!(rt; heal);
     Ok(())
 }
 
@@ -121,8 +135,7 @@ fn a_made_gfid_is_new_or_was_read(rt: HostRuntime) -> Result<(), Fail> {
         ("11 c1 begin create g1/g f1", 12, false),
         ("11 c1 begin mkdir g1/g f1", 11, false),
     ] {
-        let trace = ended_by(rt.alloc(), moved_trace(), 11, text)?;
-        let kept = breaks_at(rt.alloc(), moved(), trace.as_str(), first, new)?;
+        let kept = ended_breaks_at(rt.alloc(), moved(), moved_trace(), 11, text, first, new)?;
         assert!(rt; kept, "{text}");
     }
     Ok(())
