@@ -47,12 +47,7 @@ impl Work {
     }
 
     /// A command begins. Only what its machine takes, and no spare has, takes memory.
-    pub fn begin(
-        &mut self,
-        alloc: Global,
-        shape: Shape,
-        command: &Command,
-    ) -> Result<(), NoMemory>
+    pub fn begin(&mut self, alloc: Global, shape: Shape, command: &Command) -> Result<(), NoMemory>
         requires few { shape.n ≤ 5 }
         requires some { 0 < shape.n }
         requires has { has_machine command.now ≡ true }
