@@ -229,6 +229,7 @@ fn reads_anew(
 }
 
 /// The path is that of the name; the names before it lead to the directory.
+#[inline(never)]
 fn enters(
     alloc: Global,
     shape: Shape,
@@ -254,6 +255,7 @@ fn enters(
 }
 
 /// Each path has a name.
+#[inline(never)]
 fn renames(
     alloc: Global,
     shape: Shape,

@@ -1,5 +1,3 @@
-use Rattle.std.proofs.Common.{sym, subst}
-use Rattle.afr_rule.specs.Choosing.{IsPick}
 use Rattle.afr_client_walk.proofs.ChoosingLemmas.{pick_small}
 use Rattle.afr_client_walk.proofs.choosing.pick_among.Goals as goal
 
