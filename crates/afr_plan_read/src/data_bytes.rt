@@ -1,5 +1,5 @@
 //! The bytes that data of each form stands for.
-ghost use Rattle.std.specs.Prelude.{◌≡◌, ◌++◌, IfOk, replicate};
+ghost use Rattle.std.specs.Prelude.{◌≡◌, ◌++◌, ◌/◌, IfOk, length, replicate};
 ghost use Rattle.afr_plan.specs.Data.{hex_bytes};
 ghost use Rattle.afr_plan_line.specs.Seen.{seen_data};
 

@@ -1,5 +1,5 @@
 -- Readers that a trace needs beside those of a plan.
-use Rattle.std.specs.Prelude.{◌≡◌, ℕ, List, [], ◌∷◌, ◌^◌, Bool, Option, Some, nat_lt, position}
+use Rattle.std.specs.Prelude.{ℕ, List, [], ◌∷◌, ◌^◌, Bool, Option, Some, None, nat_lt, position}
 use Rattle.std.specs.Borrow.{Bor}
 use Rattle.std.specs.Str.{bytes_eq}
 use Rattle.std.specs.Str.Parse.{digits_value}
@@ -50,15 +50,12 @@ word_among p ok words xs = run_of p ok xs >>= find_in words
 abbrev pub is_small : ℕ → Bool
 is_small n = nat_lt n (2 ^ 32)
 
--- the first of some words, each of which stands for a fixed value, and else another reader
-abbrev pub one_of_or : {A : Type 0} → List (List ℕ × A) → Reader A → Reader A
-one_of_or [] q = q
-one_of_or (w ∷ ws) q = either (word w.0 w.1) (one_of_or ws q)
+-- the first of some words that stands there, by what it stands for
+abbrev pub first_of : {A : Type 0} → List (List ℕ × A) → Reader A
+first_of [] xs = None
+first_of (w ∷ []) xs = word w.0 w.1 xs
+first_of (w ∷ v ∷ ws) xs = either (word w.0 w.1) (first_of (v ∷ ws)) xs
 
 -- a word in memory, and what it stands for
 abbrev pub said : {A : Type 0} → Bor (List ℕ) × A → List ℕ × A
 said w = (w.0.now, w.1)
-
--- two lists of words read alike, whatever reader stands behind them
-abbrev pub ReadAlike : {A : Type 0} → List (List ℕ × A) → List (List ℕ × A) → List ℕ → Type 0
-ReadAlike {A} ws vs xs = (q : Reader A) → one_of_or ws q xs ≡ one_of_or vs q xs

@@ -1,36 +1,14 @@
 //! Answers, and the ends of heals and commands.
-ghost use Rattle.std.specs.Prelude.{◌≡◌, IfNone, IfSome, Some, codes, map};
+ghost use Rattle.std.specs.Prelude.{◌≡◌, codes};
 ghost use Rattle.std.specs.Option.{option_map};
-ghost use Rattle.afr_plan.specs.Reading as plain;
-ghost use Rattle.afr_plan.specs.Reading.{Reader, as_a, word_then};
-ghost use Rattle.afr_trace_read.specs.Forms.{one_of_or, said};
+ghost use Rattle.afr_plan.specs.Reading.{as_a, word_then};
 ghost use Rattle.afr_trace_read.specs.Parts.{actor_at, brick_at};
 ghost use Rattle.afr_trace_read.specs.Reading.{answered_at, healed_at, is_ok, replied_at};
 
+use crate::bytes::first_of;
 use crate::kinds::{Answered, Healed, SpelledReply};
 use crate::parts::{actor, brick};
 use afr_plan_line::skip;
-
-/// The first of some words that stands at the front, by what it stands for, and what follows it.
-fn one_of<'a, T: Copy>(words: &[(&[u8], T)], bytes: &'a [u8]) -> Option<(T, &'a [u8])>
-    ensures some { IfSome result (λ x. (q : Reader T) → one_of_or (map said words.now) q bytes.now ≡ Some (x.0, x.1.now)) }
-    ensures none { IfNone result ((q : Reader T) → one_of_or (map said words.now) q bytes.now ≡ q bytes.now) }
-{
-    for (word, value) in words {
-        if let Some(rest) = skip(*word, bytes) {
-            return Some((*value, rest));
-        }
-    }
-    None
-}
-
-/// A word, by what it stands for, and what follows it.
-fn one_word<'a, T: Copy>(word: &[u8], value: T, bytes: &'a [u8]) -> Option<(T, &'a [u8])>
-    ensures { option_map (λ x. (x.0, x.1.now)) result ≡ plain.word word.now value bytes.now }
-{
-    let rest = skip(word, bytes)?;
-    Some((value, rest))
-}
 
 fn held(bytes: &[u8]) -> Option<(Answered, &[u8])>
     ensures { option_map (λ x. (x.0, x.1.now)) result ≡ as_a Answered.Held (word_then (codes "held ") actor_at) bytes.now }
@@ -121,7 +99,7 @@ pub(crate) fn healed(bytes: &[u8]) -> Option<(Healed, &[u8])>
 pub(crate) fn replied(bytes: &[u8]) -> Option<(SpelledReply, &[u8])>
     ensures { option_map (λ x. (x.0, x.1.now)) result ≡ replied_at bytes.now }
 {
-    let words: [(&[u8], SpelledReply); 11] = [
+    let words: [(&[u8], SpelledReply); 12] = [
         (b"ok", SpelledReply::Ok),
         (b"no-entry", SpelledReply::NoEntry),
         (b"exists", SpelledReply::Exists),
@@ -133,11 +111,9 @@ pub(crate) fn replied(bytes: &[u8]) -> Option<(SpelledReply, &[u8])>
         (b"split-brain", SpelledReply::SplitBrain),
         (b"failed", SpelledReply::Failed),
         (b"too-large", SpelledReply::TooLarge),
+        (b"half", SpelledReply::Half),
     ];
-    match one_of(&words, bytes) {
-        Some(x) => Some(x),
-        None => one_word(b"half", SpelledReply::Half, bytes),
-    }
+    first_of(&words, bytes)
 }
 
 /// Whether a reply says that the command was carried out.

@@ -1,4 +1,4 @@
-use Rattle.std.proofs.Common.{◌≡◌, ◌++◌, ◌*◌, ◌/◌, ◌×◌, length, take, drop}
+use Rattle.std.proofs.Common.{◌≡◌, ◌++◌, ◌*◌, ◌/◌, length, take, drop}
 use Rattle.afr_plan.specs.Data.{hex_bytes}
 use Rattle.afr_plan_read.proofs.data_bytes.decode.Given as goal
 
