@@ -39,6 +39,7 @@ pub struct Transaction {
 }
 
 impl Model for Transaction {
+    ghost use Rattle.std.specs.Prelude.{◌≡◌};
     ghost use Rattle.afr_client_transaction.specs.Progress.{TransactionProgress};
     ghost use Rattle.afr_client_transaction.specs.Made.{IsTransaction, Waits, lock_of};
 
