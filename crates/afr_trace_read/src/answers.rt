@@ -29,26 +29,16 @@ pub(crate) fn answered(bytes: &[u8]) -> Option<(Answered, &[u8])>
     if let Some(x) = held(bytes) {
         return Some(x);
     }
-    if let Some(rest) = skip(b"seen", bytes) {
-        return Some((Answered::Seen, rest));
-    }
-    if let Some(rest) = skip(b"done", bytes) {
-        return Some((Answered::Done, rest));
-    }
-    if let Some(rest) = skip(b"ok", bytes) {
-        return Some((Answered::Given, rest));
-    }
-    if let Some(rest) = skip(b"absent", bytes) {
-        return Some((Answered::NoObject, rest));
-    }
-    if let Some(rest) = skip(b"lost", bytes) {
-        return Some((Answered::Lost, rest));
-    }
-    if let Some(rest) = skip(b"gone", bytes) {
-        return Some((Answered::Gone, rest));
-    }
-    let rest = skip(b"failed", bytes)?;
-    Some((Answered::Failed, rest))
+    let words: [(&[u8], Answered); 7] = [
+        (b"seen", Answered::Seen),
+        (b"done", Answered::Done),
+        (b"ok", Answered::Given),
+        (b"absent", Answered::NoObject),
+        (b"lost", Answered::Lost),
+        (b"gone", Answered::Gone),
+        (b"failed", Answered::Failed),
+    ];
+    first_of(&words, bytes)
 }
 
 fn busy(bytes: &[u8]) -> Option<(Healed, &[u8])>

@@ -6,7 +6,7 @@ ghost use Rattle.afr_trace_read.specs.Forms.{number_below, then_word};
 ghost use Rattle.afr_trace_read.specs.Parts.{keyed_at, named_at, object_at, value_at};
 ghost use Rattle.afr_trace_read.specs.Reading.{changing_at, cut_change_of, made_at, make_of, numbered_at, remove_of, removed_at, set_of, write_of};
 
-use crate::bytes::number;
+use crate::bytes::{first_of, number};
 use crate::kinds::SpelledChange;
 use crate::parts::object;
 use crate::requests::numbered;
@@ -52,22 +52,14 @@ fn set_attr<'a>(plan: &Plan, bytes: &'a [u8]) -> Option<(SpelledChange, &'a [u8]
 fn made(bytes: &[u8]) -> Option<(What, &[u8])>
     ensures { option_map (λ x. (x.0, x.1.now)) result ≡ made_at bytes.now }
 {
-    if let Some(rest) = skip(b"create ", bytes) {
-        return Some((What::File, rest));
-    }
-    let rest = skip(b"mkdir ", bytes)?;
-    Some((What::Dir, rest))
+    first_of(&[(b"create ", What::File), (b"mkdir ", What::Dir)], bytes)
 }
 
 #[tactic(auto, unfolding(crate::specs::Reading::removed_at))]
 fn removed(bytes: &[u8]) -> Option<(What, &[u8])>
     ensures { option_map (λ x. (x.0, x.1.now)) result ≡ removed_at bytes.now }
 {
-    if let Some(rest) = skip(b"unlink ", bytes) {
-        return Some((What::File, rest));
-    }
-    let rest = skip(b"rmdir ", bytes)?;
-    Some((What::Dir, rest))
+    first_of(&[(b"unlink ", What::File), (b"rmdir ", What::Dir)], bytes)
 }
 
 fn make<'a>(plan: &Plan, bytes: &'a [u8]) -> Option<(SpelledChange, &'a [u8])>

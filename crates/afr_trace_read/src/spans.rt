@@ -6,7 +6,7 @@ ghost use Rattle.afr_trace_read.specs.Forms.{number_below, then_word};
 ghost use Rattle.afr_trace_read.specs.Parts.{name_at};
 ghost use Rattle.afr_trace_read.specs.Reading.{covered_at, domain_at, span_at, span_of, upto_at};
 
-use crate::bytes::number;
+use crate::bytes::{first_of, number};
 use crate::kinds::Span;
 use crate::parts::object;
 use crate::words::name;
@@ -62,11 +62,7 @@ fn ranged(bytes: &[u8]) -> Option<(Span, &[u8])>
 fn whole_span(bytes: &[u8]) -> Option<(Span, &[u8])>
     ensures { option_map (λ x. (x.0, x.1.now)) result ≡ either (word (codes "[meta]") Span.Meta) (word (codes "/*") Span.AllNames) bytes.now }
 {
-    if let Some(rest) = skip(b"[meta]", bytes) {
-        return Some((Span::Meta, rest));
-    }
-    let rest = skip(b"/*", bytes)?;
-    Some((Span::AllNames, rest))
+    first_of(&[(b"[meta]", Span::Meta), (b"/*", Span::AllNames)], bytes)
 }
 
 #[tactic(auto, unfolding(crate::specs::Reading::span_at))]
