@@ -17,7 +17,7 @@ use Rattle.afr_object.specs.Object.{Object}
 use Rattle.afr_lines.specs.declared.line.Line.{Line}
 use Rattle.afr_plan.specs.declared.plan.Plan.{Plan}
 use Rattle.afr_model.specs.Cells.{Cell, Byte, Attr, Name, IsByte, IsAttr, IsEntry, object_of_cell, value_if, value_of}
-use Rattle.afr_model.specs.Tables.{content_in, holds}
+use Rattle.afr_model.specs.Tables.{attrs_in, content_in, holds, names_in}
 use Rattle.afr_trace_tables.specs.Plain.{bare_object, plain_tables}
 use Rattle.afr_trace_tables.proofs.BareLaws.{copy_bare}
 use Rattle.afr_trace_tables.proofs.PlainLaws.{now_bare}
@@ -67,6 +67,22 @@ byte_value g i None = ap (λ (n : ℕ). IsByte n) (byte_past i [] (omega arith))
 byte_value g i (Some o) = refl
 
 -- ---- attributes and names
+-- all of them
+pub attrs_read : (o : Option Object) (attrs : List (KeyId × ValueId)) → option_map (λ x. x.attrs) o ≡ Some attrs → attrs ≡ attrs_in o
+attrs_read None attrs h = absurd (cc h)
+attrs_read (Some o) attrs h = sym (same_Some _ _ h)
+
+pub attrs_absent : (o : Option Object) → o ≡ None → [] ≡ attrs_in o
+attrs_absent o h = rw h refl
+
+pub names_read : (o : Option Object) (names : List (NameId × Entry)) → option_map (λ x. x.names) o ≡ Some names → names ≡ names_in o
+names_read None names h = absurd (cc h)
+names_read (Some o) names h = sym (same_Some _ _ h)
+
+pub names_absent : (o : Option Object) → o ≡ None → [] ≡ names_in o
+names_absent o h = rw h refl
+
+-- one of them
 pub attr_read : (g : Gfid) (key : KeyId) (o : Option Object) (value : Option ValueId) → option_map (λ x. lookup (is_at (key_cmp key)) x.attrs) o ≡ Some value → IsAttr value ≡ value_if (Attr g key) o
 attr_read g key None value h = absurd (cc h)
 attr_read g key (Some o) value h = ap IsAttr (sym (same_Some _ _ h))

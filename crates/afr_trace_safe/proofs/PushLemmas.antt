@@ -1,6 +1,6 @@
 -- Objects that are put at the end of a list, one place or one line more.
 use Rattle.std.proofs.Common.{◌≡◌, ◌∙◌, ℕ, suc, ◌+◌, ◌<◌, ◌≤◌, List, [], ◌∷◌, ◌++◌, length, drop, take, reverse, get_or, sym, ap, arith, add-one, append_assoc, drop-cons}
-use Rattle.std.proofs.lemmas.List.{reverse-append, take_all}
+use Rattle.std.proofs.lemmas.List.{append-nil, at_drop_all, reverse-append, take_all}
 use Rattle.std.proofs.Math.Seq.{take-suc}
 use Rattle.afr_base.specs.declared.ids.Gfid.{Gfid}
 use Rattle.afr_lines.specs.declared.line.Line.{Line}
@@ -14,6 +14,12 @@ pushed {A} f F step xs i d was now all low more h =
     let cut : F (drop i xs) ≡ f (get_or xs i d) ++ F (drop (i + 1) xs) = ap F next ∙ step (get_or xs i d) (drop (i + 1) xs) in
     let rest : was ++ (f (get_or xs i d) ++ F (drop (i + 1) xs)) ≡ all = ap (λ (t : List Gfid). was ++ t) (sym cut) ∙ h in
     rw (more, append_assoc) rest
+
+-- what is left behind the last one
+pub pushed_all : {A : Type 0} (F : List A → List Gfid) → F [] ≡ [] → (xs : List A) (i : ℕ) (was all : List Gfid) → length xs ≤ i → was ++ F (drop i xs) ≡ all → was ≡ all
+pushed_all F none xs i was all high h =
+    let rest : F (drop i xs) ≡ [] = at_drop_all F xs i high ∙ none in
+    sym (append-nil was) ∙ ap (λ (t : List Gfid). was ++ t) (sym rest) ∙ h
 
 -- ---- lines
 -- of the lines up to a position the one that stands there

@@ -25,7 +25,6 @@ fn len_of(brick: &Brick, g: Gfid) -> u32
 }
 
 /// All bytes that a brick has of a file.
-#[tactic(auto, using(crate::proofs::CopyLemmas::bytes_read, crate::proofs::CopyLemmas::bytes_absent))]
 pub(crate) fn bytes_of(alloc: Global, brick: &Brick, g: Gfid) -> Result<Chunk, NoMemory>
     ensures { IfOk result (λ bytes. bytes ≡ content_in (copy_at g brick.now.objects)) }
 {
@@ -58,7 +57,6 @@ fn byte_on(brick: &Brick, g: Gfid, place: usize) -> Result<Value, NoMemory>
     read_byte(brick, g, place as u32)
 }
 
-#[tactic(auto, using(crate::proofs::CopyLemmas::byte_read, crate::proofs::CopyLemmas::byte_absent))]
 fn read_byte(brick: &Brick, g: Gfid, place: u32) -> Result<Value, NoMemory>
     ensures { IfOk result (λ value. value_seen value ≡ value_if (SpecByte g place) (copy_at g brick.now.objects)) }
 {

@@ -1,4 +1,4 @@
-use Rattle.std.proofs.Common.{◌∙◌, ℕ, Bool, List, [], ap, length, refl, reverse, sym}
+use Rattle.std.proofs.Common.{◌∙◌, ℕ, Bool, [], ap, length, refl, reverse, sym}
 use Rattle.std.proofs.lemmas.List.{length-reverse}
 use Rattle.afr_model.specs.Cells.{Byte, IsByte}
 use Rattle.afr_object.specs.Bytes.{byte_at}

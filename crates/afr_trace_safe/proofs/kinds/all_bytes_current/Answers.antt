@@ -1,4 +1,4 @@
-use Rattle.std.proofs.Common.{◌≡◌, ◌∙◌, [], List, ℕ, ap, arith, length, reverse, sym}
+use Rattle.std.proofs.Common.{◌∙◌, List, ℕ, ap, arith, length, reverse, sym}
 use Rattle.std.proofs.lemmas.List.{length-reverse}
 use Rattle.afr_model.specs.Tables.{content_in}
 use Rattle.afr_object.specs.State.{Copies}
