@@ -1,6 +1,6 @@
 //! The actors of a plan, before any line.
 ghost use Rattle.std.specs.Prelude.{IfOk};
-ghost use Rattle.afr_volume.specs.Starting.{AreNewActors};
+ghost use Rattle.afr_volume.specs.Starting.{AreNewActors, IsNewActor};
 
 use crate::actor::Actor;
 use afr_base::NoMemory;
@@ -14,13 +14,19 @@ pub(crate) fn all_actors(alloc: Global, clients: usize) -> Result<Vec<Actor>, No
 {
     let mut actors = Vec::new(alloc);
     for _ in 0..clients {
-        actors.push(Actor {
-            ended: 0,
-            killed: false,
-            visit: Visit::new(),
-            picked: None,
-            work: Work::none(),
-        })?;
+        actors.push(new_actor())?;
     }
     Ok(actors)
+}
+
+fn new_actor() -> Actor
+    ensures { IsNewActor result }
+{
+    Actor {
+        ended: 0,
+        killed: false,
+        visit: Visit::new(),
+        picked: None,
+        work: Work::none(),
+    }
 }
