@@ -17,9 +17,6 @@ none_taken : (a : Option (List ℕ)) → Appends a a []
 none_taken None = tt
 none_taken (Some u) = sym (append-nil u)
 
-pub kept : (a : Option (List ℕ)) (held : List ℕ) → HandsOn a a held held
-kept a held = record { taken = []; appends = none_taken a; whole = refl }
-
 pub begun : (a : Option (List ℕ)) → Handed a a [] []
 begun a = record { taken = []; appends = none_taken a; whole = refl }
 
@@ -30,10 +27,6 @@ handed_more a b c held more left done h k = record {
   appends = appends_more a b c h.taken k.taken _ refl h.appends k.appends;
   whole = append_assoc h.taken k.taken left ∙ ap (λ (t : List ℕ). h.taken ++ t) k.whole ∙ sym (append_assoc h.taken held more) ∙ ap (λ (t : List ℕ). t ++ more) h.whole;
 }
-
--- all was handed on
-pub handed_all : (a b c : Option (List ℕ)) (held done : List ℕ) → Handed a b held done → Appends b c held → Appends a c done
-handed_all a b c held done h k = appends_more a b c h.taken held done h.whole h.appends k
 
 take_more : (xs ys : List ℕ) (n m : ℕ) → m ≡ length xs + n → take m (xs ++ ys) ≡ xs ++ take n ys
 take_more [] ys n m e =

@@ -1,10 +1,9 @@
 //! The text of each line of a log.
-ghost use Rattle.std.specs.Prelude.{◌≡◌, ◌++◌, OnOk, codes, decimal, string_bytes};
+ghost use Rattle.std.specs.Prelude.{◌≡◌, ◌++◌, OnOk, codes, string_bytes};
 ghost use Rattle.afr_model.specs.ReportReplies.{actor_text, heal_text, reply_text};
-ghost use Rattle.afr_report_trace.specs.Answers.{event_text, told_text};
+ghost use Rattle.afr_report_trace.specs.Answers.{event_text};
 ghost use Rattle.afr_report_trace.specs.Changes.{change_text};
 ghost use Rattle.afr_report_trace.specs.Lines.{healed_text, line_text, said_text};
-ghost use Rattle.afr_report_trace.specs.Requests.{request_text};
 
 use crate::answers::{push_event, push_told};
 use crate::askers::push_brick;
