@@ -7,6 +7,7 @@ ghost use Rattle.afr_law_runnable.specs.Runnable.{IsRunnable};
 ghost use Rattle.afr_model.specs.Complete.{IsComplete};
 ghost use Rattle.afr_model.specs.Ordered.{IsOrdered};
 ghost use Rattle.afr_model.specs.ReportHealers.{report_of};
+ghost use Rattle.afr_report_trace.specs.Lines.{trace_of};
 ghost use Rattle.afr_rule.specs.Choosing.{IsRule};
 ghost use Rattle.afr_volume.specs.Right.{IsChosenBy};
 ghost use Rattle.afr_volume.specs.State.{no_volume};
@@ -19,7 +20,8 @@ use crate::status::Status;
 use afr_base::NoMemory;
 use afr_order::drive;
 use afr_plan::Plan;
-use afr_report::{info_text, report_text, summary_text, trace_text};
+use afr_report::{gathered_trace, info_text, report_text, summary_text};
+use afr_report_trace::{Gathered, write_trace};
 use afr_rule::{Candidate, Rules};
 use afr_text::Sink;
 use afr_volume::Volume;
@@ -79,9 +81,52 @@ pub fn tell<K: Sink>(alloc: Global, form: Form, sink: &mut K, volume: &Volume) -
         × IsOver volume.now.plan volume.now.log }
     ensures memory { result ≡ 6 → sink.new ≡ sink.old }
 {
+    if let Form::Trace = form {
+        return tell_trace(alloc, sink, volume);
+    }
     match text_of(alloc, form, volume) {
         Ok(text) => finish(sink, text.as_bytes(), volume),
         Err(_) => Status::NoMemory as u8,
+    }
+}
+
+/// Writes the trace of a run that is over, and answers how it ended. What takes memory is gathered before a byte is written.
+fn tell_trace<K: Sink>(alloc: Global, sink: &mut K, volume: &Volume) -> u8
+    requires actors { length volume.now.plan.healers ≤ 16 }
+    requires plain { volume.now.crawl ≡ false }
+    requires complete { IsComplete volume.now.plan volume.now.log }
+    ensures few { (result ≡ 0) ⊎ (result ≡ 5) ⊎ (result ≡ 6) ⊎ (result ≡ 7) }
+    ensures ok { result ≡ 0 → AreDone volume.now.plan volume.now.log }
+    ensures unfinished { result ≡ 7 → Appends (K.taken sink.old) (K.taken sink.new) (trace_of volume.now.plan volume.now.log)
+        × IsFull volume.now.plan volume.now.log × IsWorkLeft volume.now.plan volume.now.log }
+    ensures text { result ≡ 0 → Appends (K.taken sink.old) (K.taken sink.new) (trace_of volume.now.plan volume.now.log) }
+    ensures write { result ≡ 5 → Rose (K.faults sink.old) (K.faults sink.new) × AppendsFront (K.taken sink.old) (K.taken sink.new) (trace_of volume.now.plan volume.now.log)
+        × IsOver volume.now.plan volume.now.log }
+    ensures memory { result ≡ 6 → sink.new ≡ sink.old }
+{
+    match gathered_trace(alloc, volume) {
+        Ok(gathered) => finish_trace(sink, gathered, volume),
+        Err(_) => Status::NoMemory as u8,
+    }
+}
+
+/// Writes the trace of a run that is over, and answers how it ended.
+fn finish_trace<K: Sink>(sink: &mut K, gathered: Gathered, volume: &Volume) -> u8
+    requires actors { length volume.now.plan.healers ≤ 16 }
+    requires plain { volume.now.crawl ≡ false }
+    requires complete { IsComplete volume.now.plan volume.now.log }
+    ensures few { (result ≡ 0) ⊎ (result ≡ 5) ⊎ (result ≡ 7) }
+    ensures ok { result ≡ 0 → AreDone volume.now.plan volume.now.log }
+    ensures unfinished { result ≡ 7 → Appends (K.taken sink.old) (K.taken sink.new) gathered
+        × IsFull volume.now.plan volume.now.log × IsWorkLeft volume.now.plan volume.now.log }
+    ensures text { result ≡ 0 → Appends (K.taken sink.old) (K.taken sink.new) gathered }
+    ensures write { result ≡ 5 → Rose (K.faults sink.old) (K.faults sink.new) × AppendsFront (K.taken sink.old) (K.taken sink.new) gathered
+        × IsOver volume.now.plan volume.now.log }
+{
+    let status = status_after(volume);
+    match write_trace(gathered, sink) {
+        Ok(()) => status,
+        Err(_) => Status::WriteFault as u8,
     }
 }
 
@@ -102,14 +147,15 @@ pub fn finish<K: Sink>(sink: &mut K, text: &[u8], volume: &Volume) -> u8
     answer(sink, text, status)
 }
 
-/// The text that the form writes of the volume as it stands.
+/// The text that the form writes of the volume as it stands, which is no trace.
 fn text_of(alloc: Global, form: Form, volume: &Volume) -> Result<String, NoMemory>
     requires plain { volume.now.crawl ≡ false }
+    requires form { form ≢ Form.Trace }
     ensures ok { IfOk result (λ text. string_bytes text ≡ text_of form volume.now.plan volume.now.log) }
 {
     match form {
         Form::Run => rounds_report(alloc, volume),
-        Form::Trace => trace_text(alloc, volume),
+        Form::Trace => unreachable!(),
         Form::Info => info_text(alloc, volume),
         Form::Gen(n) => summary_text(alloc, volume, n),
         Form::Replay(_) => rounds_report(alloc, volume),

@@ -15,7 +15,7 @@ mod summed;
 mod workers;
 
 pub use events::started;
-pub use of_volume::{info_text, report_text, trace_text};
+pub use of_volume::{gathered_trace, info_text, report_text};
 pub use report::print_report;
 pub use summed::{print_summary, summary_text};
 pub use workers::is_untried;

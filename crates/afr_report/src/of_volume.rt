@@ -8,7 +8,7 @@ use crate::report::print_report;
 use crate::workers::crawl_text;
 use afr_base::NoMemory;
 use afr_report_info::print_info;
-use afr_report_trace::print_trace;
+use afr_report_trace::{Gathered, gather_trace};
 use afr_volume::Volume;
 use std::alloc::Global;
 
@@ -47,9 +47,9 @@ pub fn info_text(alloc: Global, volume: &Volume) -> Result<String, NoMemory>
     Ok(out)
 }
 
-/// The trace of the volume's log as it stands: a text line for each of its lines.
-pub fn trace_text(alloc: Global, volume: &Volume) -> Result<String, NoMemory>
-    ensures ok { IfOk result (λ text. string_bytes text ≡ trace_of volume.now.plan volume.now.log) }
+/// The trace of the volume's log as it stands, gathered: a text line for each of its lines.
+pub fn gathered_trace(alloc: Global, volume: &Volume) -> Result<Gathered, NoMemory>
+    ensures ok { IfOk result (λ gathered. gathered ≡ trace_of volume.now.plan volume.now.log) }
 {
-    print_trace(alloc, volume.plan(), volume.lines())
+    gather_trace(alloc, volume.plan(), volume.lines())
 }

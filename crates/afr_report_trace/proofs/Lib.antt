@@ -1,4 +1,6 @@
 mod ActorLemmas
 mod FiveLemmas
-mod HeadLemmas
+mod TextLemmas
+mod RowLemmas
+mod WriteLemmas
 mod TraceLemmas

@@ -5,5 +5,6 @@ pub mod Repairs
 pub mod Requests
 pub mod Answers
 pub mod Lines
-pub mod Heads
+pub mod Texts
 pub mod Endings
+pub mod Written

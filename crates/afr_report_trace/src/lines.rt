@@ -1,25 +1,17 @@
 //! The text of each line of a log.
-ghost use Rattle.std.specs.Prelude.{◌≡◌, ◌++◌, ◌/◌, All, OnOk, codes, decimal, string_bytes};
-ghost use Rattle.afr_log.specs.Log.{asked_line};
+ghost use Rattle.std.specs.Prelude.{◌≡◌, ◌++◌, OnOk, codes, string_bytes};
 ghost use Rattle.afr_model.specs.ReportReplies.{actor_text, heal_text, reply_text};
-ghost use Rattle.afr_report_trace.specs.Answers.{event_text, told_text};
+ghost use Rattle.afr_report_trace.specs.Answers.{event_text};
 ghost use Rattle.afr_report_trace.specs.Changes.{change_text};
-ghost use Rattle.afr_report_trace.specs.Endings.{ending_text};
-ghost use Rattle.afr_report_trace.specs.Heads.{tens_text};
 ghost use Rattle.afr_report_trace.specs.Lines.{healed_text, line_text, said_text};
-ghost use Rattle.afr_report_trace.specs.Requests.{request_text};
 
 use crate::answers::{push_event, push_told};
 use crate::askers::push_brick;
 use crate::changes::push_change;
-use crate::endings::ending_of;
 use crate::objects::push_object;
-use crate::page::{Page, push_head};
 use crate::requests::push_request;
-use crate::spelled::push_ended;
 use afr_base::{ActorId, BrickId, Gfid, Kind, NoMemory};
 use afr_lines::{Event, HealReply, Line, Reply, Request, Told};
-use afr_log::Asker;
 use afr_object::Change;
 use afr_plan::Plan;
 use afr_report_words::{kind_word, push_actor, push_heal_reply, push_number, push_reply};
@@ -35,36 +27,15 @@ pub fn push_line(
 {
     push_number(out, position as u64)?;
     out.push(' ')?;
-    push_said(out, plan, line)?;
-    out.push('\n')?;
-    Ok(())
+    push_rest(out, plan, line)
 }
 
-/// The same of a request. Its pieces are taken from the page, which is turned to the position.
-pub(crate) fn push_asked(
-    out: &mut String,
-    plan: &Plan,
-    page: &mut Page,
-    position: usize,
-    by: Asker,
-    request: &Request,
-    told: &Told,
-) -> Result<(), NoMemory>
-    requires tens { string_bytes page.old.tens ≡ tens_text (position / 10) }
-    requires words { All (λ last. string_bytes last.words ≡ request_text plan.now last.request ++ ending_text last.ending) page.old.places.items }
-    ensures ok { OnOk result (string_bytes out.new ≡ string_bytes out.old ++ line_text plan.now position (asked_line by request.now told.now)) }
-    ensures words { OnOk result (All (λ last. string_bytes last.words ≡ request_text plan.now last.request ++ ending_text last.ending) page.new.places.items) }
-    ensures tens { page.new.tens ≡ page.old.tens }
+/// Adds what the line says, and its end.
+pub(crate) fn push_rest(out: &mut String, plan: &Plan, line: &Line) -> Result<(), NoMemory>
+    ensures ok { OnOk result (string_bytes out.new ≡ string_bytes out.old ++ (said_text plan.now line.now ++ codes "\n")) }
 {
-    push_head(out, page, position, by.actor, by.brick)?;
-    push_ended(
-        out,
-        plan,
-        page.places.as_mut_slice(),
-        by.actor,
-        request,
-        ending_of(told, by.took),
-    )?;
+    push_said(out, plan, line)?;
+    out.push('\n')?;
     Ok(())
 }
 

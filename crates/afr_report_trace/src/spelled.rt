@@ -1,118 +1,109 @@
-//! The last request of each actor, with its text: most bricks are asked alike, one after another.
-ghost use Rattle.std.specs.Prelude.{◌≡◌, ◌++◌, All, IfOk, OnOk, string_bytes};
+//! The last request of each actor, with the number of its text: most bricks are asked alike, one after another.
+ghost use Rattle.std.specs.Prelude.{◌≡◌, ◌++◌, All, IfOk, OnOk};
 ghost use Rattle.afr_report_trace.specs.Endings.{ending_text};
 ghost use Rattle.afr_report_trace.specs.Requests.{request_text};
+ghost use Rattle.afr_report_trace.specs.Texts.{Grows, IsSpelled, IsText};
 
 use crate::endings::{LineEnding, push_ending};
 use crate::repeats::{is_asked_of_all, is_repeated};
 use crate::requests::push_request;
+use crate::texts::{SLOTS, Texts, number_of};
 use afr_base::{ACTORS, ActorId, NoMemory};
 use afr_lines::Request;
 use afr_plan::Plan;
 use std::alloc::Global;
 
-/// A request that was spelled, with its answer and the text of both.
-#[derive(Drop)]
+/// A request that was spelled, with its answer and the number of the text of both.
+#[derive(Clone, Copy)]
 pub(crate) struct Spelled {
     pub(crate) request: Request,
     pub(crate) ending: LineEnding,
-    pub(crate) words: String,
+    pub(crate) number: u32,
 }
 
-impl Spelled {
-    fn new(alloc: Global, plan: &Plan) -> Result<Spelled, NoMemory>
-        ensures { IfOk result (λ last. string_bytes last.words ≡ request_text plan.now last.request ++ ending_text last.ending) }
+/// What is kept from a line to the next.
+#[derive(Drop)]
+pub(crate) struct Page {
+    /// Where a text is spelled.
+    pub(crate) words: String,
+    /// For each hash the number of a text that has it.
+    pub(crate) slots: Vec<u32>,
+    /// The last request of each actor of a volume.
+    pub(crate) places: Vec<Spelled>,
+}
+
+impl Page {
+    /// A page with one request for each actor, which nobody asked.
+    pub(crate) fn new(alloc: Global, texts: &mut Texts, plan: &Plan) -> Result<Page, NoMemory>
+        ensures grown { OnOk result (Grows texts.old texts.new) }
+        ensures places { IfOk result (λ page. All (IsSpelled plan.now texts.new) page.places.items) }
     {
+        let mut slots = Vec::new(alloc);
+        slots.resize(SLOTS, 0)?;
+        let mut page = Page {
+            words: String::new(alloc),
+            slots,
+            places: Vec::new(alloc),
+        };
         let request = Request::Index;
         let ending = LineEnding::Given;
-        let mut words = String::new(alloc);
-        push_request(&mut words, plan, &request)?;
-        push_ending(&mut words, ending)?;
-        Ok(Spelled {
+        let number = spell(texts, &mut page, plan, &request, ending)?;
+        let spelled = Spelled {
             request,
             ending,
-            words,
-        })
-    }
-
-    /// Takes a request and its answer in place of the last.
-    fn take(&mut self, plan: &Plan, request: &Request, ending: LineEnding) -> Result<(), NoMemory>
-        ensures request { OnOk result (self.new.request ≡ request.now) }
-        ensures ending { OnOk result (self.new.ending ≡ ending) }
-        ensures words { OnOk result (string_bytes self.new.words ≡ request_text plan.now request.now ++ ending_text ending) }
-    {
-        self.words.clear();
-        push_request(&mut self.words, plan, request)?;
-        push_ending(&mut self.words, ending)?;
-        self.request = *request;
-        self.ending = ending;
-        Ok(())
+            number,
+        };
+        page.places.resize(ACTORS, spelled)?;
+        Ok(page)
     }
 }
 
-/// A place for each actor of a volume.
-pub(crate) fn places(alloc: Global, plan: &Plan) -> Result<Vec<Spelled>, NoMemory>
-    ensures { IfOk result (λ places. All (λ last. string_bytes last.words ≡ request_text plan.now last.request ++ ending_text last.ending) places.items) }
-{
-    let mut places = Vec::with_capacity(alloc, ACTORS)?;
-    for _ in 0..ACTORS {
-        places.push(Spelled::new(alloc, plan)?)?;
-    }
-    Ok(places)
-}
-
-/// Adds a request of an actor and its answer. Those that the actor had last are not spelled anew.
-pub(crate) fn push_ended(
-    out: &mut String,
+/// The number of the text of a request and its end. Those that the actor had last are not spelled anew.
+pub(crate) fn number_asked(
+    texts: &mut Texts,
+    page: &mut Page,
     plan: &Plan,
-    places: &mut [Spelled],
     actor: ActorId,
     request: &Request,
     ending: LineEnding,
-) -> Result<(), NoMemory>
-    requires { All (λ last. string_bytes last.words ≡ request_text plan.now last.request ++ ending_text last.ending) places.old }
-    ensures ok { OnOk result (string_bytes out.new ≡ string_bytes out.old ++ (request_text plan.now request.now ++ ending_text ending)) }
-    ensures words { OnOk result (All (λ last. string_bytes last.words ≡ request_text plan.now last.request ++ ending_text last.ending) places.new) }
+) -> Result<u32, NoMemory>
+    requires { All (IsSpelled plan.now texts.old) page.old.places.items }
+    ensures text { IfOk result (λ number. IsText texts.new number (request_text plan.now request.now ++ ending_text ending)) }
+    ensures grown { OnOk result (Grows texts.old texts.new) }
+    ensures places { OnOk result (All (IsSpelled plan.now texts.new) page.new.places.items) }
 {
     let at = usize::from(actor.0);
-    if at < places.len() {
-        return push_again(out, plan, &mut places[at], request, ending);
+    if at >= page.places.len() {
+        return spell(texts, page, plan, request, ending);
     }
-    push_once(out, plan, request, ending)
-}
-
-fn push_again(
-    out: &mut String,
-    plan: &Plan,
-    last: &mut Spelled,
-    request: &Request,
-    ending: LineEnding,
-) -> Result<(), NoMemory>
-    requires { string_bytes last.old.words ≡ request_text plan.now last.old.request ++ ending_text last.old.ending }
-    ensures ok { OnOk result (string_bytes out.new ≡ string_bytes out.old ++ (request_text plan.now request.now ++ ending_text ending)) }
-    ensures words { OnOk result (string_bytes last.new.words ≡ request_text plan.now last.new.request ++ ending_text last.new.ending) }
-{
+    let last = page.places[at];
     if last.ending == ending && is_repeated(request, &last.request) {
-        out.push_str(last.words.as_str())?;
-        return Ok(());
+        return Ok(last.number);
     }
+    let number = spell(texts, page, plan, request, ending)?;
     if is_asked_of_all(request) {
-        last.take(plan, request, ending)?;
-        out.push_str(last.words.as_str())?;
-        return Ok(());
+        page.places[at] = Spelled {
+            request: *request,
+            ending,
+            number,
+        };
     }
-    push_once(out, plan, request, ending)
+    Ok(number)
 }
 
-fn push_once(
-    out: &mut String,
+fn spell(
+    texts: &mut Texts,
+    page: &mut Page,
     plan: &Plan,
     request: &Request,
     ending: LineEnding,
-) -> Result<(), NoMemory>
-    ensures ok { OnOk result (string_bytes out.new ≡ string_bytes out.old ++ (request_text plan.now request.now ++ ending_text ending)) }
+) -> Result<u32, NoMemory>
+    ensures text { IfOk result (λ number. IsText texts.new number (request_text plan.now request.now ++ ending_text ending)) }
+    ensures grown { OnOk result (Grows texts.old texts.new) }
+    ensures places { page.new.places ≡ page.old.places }
 {
-    push_request(out, plan, request)?;
-    push_ending(out, ending)?;
-    Ok(())
+    page.words.clear();
+    push_request(&mut page.words, plan, request)?;
+    push_ending(&mut page.words, ending)?;
+    number_of(texts, page.slots.as_mut_slice(), page.words.as_bytes())
 }

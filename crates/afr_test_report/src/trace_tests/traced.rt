@@ -5,7 +5,8 @@ use afr_lines::Line;
 use afr_log::Log;
 use afr_object::List;
 use afr_plan::{Plan, Word, WordList, Words};
-use afr_report_trace::print_trace;
+use afr_report_trace::{gather_trace, write_trace};
+use afr_text::MemSink;
 use std::alloc::Global;
 
 /// A plan of some bricks with one opening file, and with two names, a key and a value.
@@ -49,12 +50,18 @@ pub fn reads(alloc: Global, n: u8, log: Result<Vec<Line>, NoMemory>, text: &str)
 
 fn is_trace(alloc: Global, plan: &Plan, lines: Vec<Line>, text: &str) -> bool {
     match trace(alloc, plan, lines) {
-        Ok(trace) => trace.as_str() == text,
+        Ok(sink) => sink.taken() == text.as_bytes(),
         Err(_) => false,
     }
 }
 
-fn trace(alloc: Global, plan: &Plan, lines: Vec<Line>) -> Result<String, NoMemory> {
+/// A sink that has taken the trace, all of it in the first call.
+fn trace(alloc: Global, plan: &Plan, lines: Vec<Line>) -> Result<MemSink, NoMemory> {
     let log = Log::of(alloc, lines)?;
-    print_trace(alloc, plan, &log)
+    let gathered = gather_trace(alloc, plan, &log)?;
+    let mut sink = MemSink::new(alloc, usize::MAX, Vec::new(alloc));
+    match write_trace(gathered, &mut sink) {
+        Ok(()) => Ok(sink),
+        Err(_) => Err(NoMemory),
+    }
 }
