@@ -260,3 +260,7 @@ marked_is p log b index rises v =
     found : (q : Gfid) (t : Bool) → is_raised q log ≡ t → (if t then kind_marked p log b q else None) ≡ kind_marked p log b q
     found q true h = refl
     found q false h = sym (ap (λ (t : Bool). if t then option_map (λ (o : Object). o.what) (copy_at q (holds p log b)) else None) (unmarked p log b q h))
+
+-- ---- one of three
+pub one_of_three : (x one two three a b c other : Bool) → one ≡ a → two ≡ b → three ≡ c → other ≡ (one || two) → x ≡ (other || three) → x ≡ (a || b || c)
+one_of_three x one two three a b c other e f g h k = rw (k, h, e, f, g) refl

@@ -1,5 +1,6 @@
 //! The lists that the healers' present rounds were given, kept up to date one line more at a time.
-ghost use Rattle.std.specs.Prelude.{◌≡◌, ◌+◌, ◌-◌, ◌<◌, ◌≤◌, ◌∷◌, ℕ, [], List, IfOk, OnOk, length, reverse};
+ghost use Rattle.std.specs.Prelude.{◌≡◌, ◌+◌, ◌-◌, ◌<◌, ◌≤◌, ◌∷◌, ℕ, Bool, [], List, IfOk, OnOk, length, reverse};
+ghost use Rattle.afr_base.specs.declared.ids.ActorId.{ActorId};
 ghost use Rattle.afr_lines.specs.Work.{work};
 ghost use Rattle.afr_lines.specs.declared.line.Line.{Line};
 ghost use Rattle.afr_plan.specs.declared.plan.Plan.{Plan};
@@ -33,6 +34,24 @@ fn new_given(alloc: Global) -> Result<Vec<IndexList>, NoMemory>
     Ok(given)
 }
 
+fn brick_if_given(told: Told, brick: BrickId) -> Option<BrickId>
+    ensures { (a : ActorId) (took : Bool) → result ≡ index_given (Line.Ask a brick Request.Index told took) }
+{
+    match told {
+        Told::Given => Some(brick),
+        _ => None,
+    }
+}
+
+fn index_asked(brick: BrickId, request: &Request, told: Told) -> Option<BrickId>
+    ensures { (a : ActorId) (took : Bool) → result ≡ index_given (Line.Ask a brick request.now told took) }
+{
+    match request {
+        Request::Index => brick_if_given(told, brick),
+        _ => None,
+    }
+}
+
 /// The brick whose index a line gave.
 fn index_given(line: &Line) -> Option<BrickId>
     ensures { result ≡ index_given line.now }
@@ -40,11 +59,15 @@ fn index_given(line: &Line) -> Option<BrickId>
     match line {
         Line::Ask {
             brick,
-            request: Request::Index,
-            told: Told::Given,
+            request,
+            told,
             ..
-        } => Some(*brick),
-        _ => None,
+        } => index_asked(*brick, request, *told),
+        Line::Begin { .. } => None,
+        Line::HealBegin { .. } => None,
+        Line::End { .. } => None,
+        Line::HealEnd { .. } => None,
+        Line::Event { .. } => None,
     }
 }
 

@@ -1,6 +1,9 @@
 //! Which objects of a brick an index lists, by the sums over the log.
-ghost use Rattle.std.specs.Prelude.{◌≡◌, ◌<◌, ◌&&◌, ◌==◌, ◌||◌, ◌∷◌, [], List, IfOk, OnOk, is_some, length, option_map, reverse, if◌then◌else◌};
+ghost use Rattle.std.specs.Prelude.{Bool, ◌≡◌, ◌<◌, ◌&&◌, ◌==◌, ◌||◌, ◌∷◌, [], List, IfOk, OnOk, is_some, length, option_map, reverse, if◌then◌else◌};
+ghost use Rattle.afr_base.specs.declared.ids.ActorId.{ActorId};
+ghost use Rattle.afr_base.specs.declared.ids.BrickId.{BrickId};
 ghost use Rattle.afr_base.specs.declared.ids.Gfid.{Gfid};
+ghost use Rattle.afr_lines.specs.declared.answer.Told.{Told};
 ghost use Rattle.afr_index.specs.Listed.{kind_at};
 ghost use Rattle.afr_lines.specs.declared.line.Line.{Line};
 ghost use Rattle.afr_model.specs.Tables.{holds};
@@ -8,6 +11,7 @@ ghost use Rattle.afr_object.specs.Tables.{copy_at};
 ghost use Rattle.afr_trace_follow.specs.Marked.{IsListing, has_number, is_marked, kind_marked, marked_on, raised};
 ghost use Rattle.afr_trace_tally.specs.Tally.{IsTally};
 
+use crate::facts::either;
 use afr_base::{BrickId, Gfid, Kind, NoMemory, What};
 use afr_index::Index;
 use afr_lines::{Line, Request};
@@ -37,7 +41,8 @@ fn is_marked(tally: &Tally, plan: &Plan, log: &[Line], b: BrickId, g: Gfid) -> b
     let bytes = has_number(tally, plan, log, b, g, Kind::Bytes);
     let attrs = has_number(tally, plan, log, b, g, Kind::Attrs);
     let names = has_number(tally, plan, log, b, g, Kind::Names);
-    bytes || attrs || names
+    let other = either(bytes, attrs);
+    either(other, names)
 }
 
 fn kind_found(tally: &Tally, plan: &Plan, log: &[Line], b: BrickId, g: Gfid) -> Option<What>
@@ -65,20 +70,27 @@ fn kind_marked(tally: &Tally, plan: &Plan, log: &[Line], b: BrickId, g: Gfid) ->
     }
 }
 
+fn raised_by(request: &Request) -> Option<Gfid>
+    ensures { (a : ActorId) (b : BrickId) (told : Told) (took : Bool) → result ≡ raised (Line.Ask a b request.now told took) }
+{
+    match request {
+        Request::Pre { gfid, .. } => Some(*gfid),
+        Request::Post { gfid, .. } => Some(*gfid),
+        _ => None,
+    }
+}
+
 /// The object of which a line may raise a number.
 fn raised(line: &Line) -> Option<Gfid>
     ensures { result ≡ raised line.now }
 {
     match line {
-        Line::Ask {
-            request: Request::Pre { gfid, .. },
-            ..
-        } => Some(*gfid),
-        Line::Ask {
-            request: Request::Post { gfid, .. },
-            ..
-        } => Some(*gfid),
-        _ => None,
+        Line::Ask { request, .. } => raised_by(request),
+        Line::Begin { .. } => None,
+        Line::HealBegin { .. } => None,
+        Line::End { .. } => None,
+        Line::HealEnd { .. } => None,
+        Line::Event { .. } => None,
     }
 }
 
