@@ -1,7 +1,6 @@
 -- The bricks of a set below a number: whether there are some, whether it has all of them, and the lowest of them.
-use Rattle.std.proofs.Common.{◌≡◌, ◌∙◌, ◌⊎◌, inl, inr, ℕ, zero, suc, ◌<◌, ◌≤◌, ◌&&◌, not, Bool, true, false, List, Option, None, Some, filter, refl, sym, ap, subst, arith}
-use Rattle.afr_base.proofs.OfFive.{member_chosen}
-use Rattle.afr_base.specs.Bricks.{all_five, below, common, is_nothing, lowest, member, minus}
+use Rattle.std.proofs.Common.{◌≡◌, ◌∙◌, ◌⊎◌, inl, inr, ℕ, zero, suc, ◌<◌, ◌≤◌, ◌&&◌, not, Bool, true, false, List, Option, None, Some, refl, sym, ap, subst, arith}
+use Rattle.afr_base.specs.Bricks.{below, common, is_nothing, lowest, member, minus}
 use Rattle.afr_base.specs.Majority.{is_most}
 use Rattle.afr_base.specs.SetLemmas.{below_all, lowest_in, lowest_left, member_minus, most_same, none_left, some_member, within_below}
 use Rattle.afr_base.specs.declared.ids.Kind.{Kind}
@@ -101,13 +100,6 @@ module _ (n : ℕ) (s few : List ℕ) (five : n ≤ 5) (is : few ≡ common s (b
           let there : member few (lowest few) ≡ true = lowest_in few e in
           let low : lowest few < n = inside (lowest few) there in
           rw e (sym (some_no n (member s) (lowest few) low (sym (shared (lowest few) low) ∙ there)))
-
--- the bricks that pass a test, of a set
-pub some_both : (n : ℕ) → n ≤ 5 → (p : ℕ → Bool) (set chosen few : List ℕ) → chosen ≡ filter p all_five → few ≡ common chosen set → any n (member few) ≡ any n (λ s. member set s && p s)
-some_both n five p set chosen few is are =
-    any_same n (member few) (λ s. member set s && p s)
-    (λ x l.
-    ap (λ (t : List ℕ). member t x) are ∙ in_common chosen set x ∙ ap (λ (m : Bool). member set x && m) (ap (λ (t : List ℕ). member t x) is ∙ member_chosen p x (omega (arith, l, five))))
 
 -- nothing is missing below a number where the set has all of them
 pub none_missing : (n : ℕ) → n ≤ 5 → (s missing : List ℕ) → missing ≡ minus (below n) s → is_nothing missing ≡ all n (member s)

@@ -12,7 +12,7 @@ ghost use Rattle.afr_discipline.specs.Tests.{fits_view, suffices_by};
 
 use crate::of_five::all_of;
 use afr_base::{BrickId, BrickSet, Kind, Shape, What};
-use afr_choice::{Looked, good_shown, shown};
+use afr_choice::{Looked, is_good, shown};
 use afr_object::{Change, View};
 
 /// Whether the set is a majority in which a copy is good.
@@ -23,11 +23,25 @@ pub fn suffices(shape: Shape, looked: &Looked, kind: Kind, set: BrickSet) -> boo
     set.has_quorum(shape.n) && some_good(shape, looked, kind, set)
 }
 
+fn is_good_in(shape: Shape, looked: &Looked, kind: Kind, set: BrickSet, s: BrickId) -> bool
+    requires few { shape.n ≤ 5 }
+    requires small { s.0 < 5 }
+    ensures { result ≡ member set s.0 && good shape.n (keeps_in shape) kind (views_of looked.now) s.0 }
+{
+    set.has(s) && is_good(shape, looked, kind, s)
+}
+
+/// Whether a copy of the set is good. The views are asked of no copy past the first that is.
 fn some_good(shape: Shape, looked: &Looked, kind: Kind, set: BrickSet) -> bool
     requires { shape.n ≤ 5 }
     ensures { result ≡ any shape.n (λ s. member set s && good shape.n (keeps_in shape) kind (views_of looked.now) s) }
 {
-    has_some(shape.n, good_shown(shape, looked, kind).common(set))
+    for s in 0..shape.n {
+        if is_good_in(shape, looked, kind, set, BrickId(s)) {
+            return true;
+        }
+    }
+    false
 }
 
 /// Whether the bricks with a copy are a majority in which a copy is good.
