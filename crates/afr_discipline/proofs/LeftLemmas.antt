@@ -84,11 +84,6 @@ pub all_asked : (m : ℕ) → m ≤ 5 → (set asked left : List ℕ) → left �
 all_asked m few set asked left is =
     sym (over_left m few (member set) (member asked) (member left) (λ x l. ap (λ (t : List ℕ). member t x) is ∙ member_minus set asked x ∙ turned_round (member asked x) (member set x)))
 
--- each brick of the step below a number was asked exactly where none of them is left
-pub over_is_none_left : (m : ℕ) → m ≤ 5 → (p : Register) (s : ℕ) (step : TheStep) (left : List ℕ) → AreLeft p s step left
-    → over m (set_of p.shape.n (keeps_in p.shape) (seen_as p) s (step_of step)) (asked_in (seen_as p) (step_of step)) ≡ not (any m (member left))
-over_is_none_left m few p s step left are = over_left m few (set_of p.shape.n (keeps_in p.shape) (seen_as p) s (step_of step)) (asked_in (seen_as p) (step_of step)) (member left) are
-
 -- a step that is behind the actor is nobody's turn
 pub no_turn : (n : ℕ) (keeps : ℕ → Kind → Bool) (r : Exact) (s : ℕ) (step : Step) → nat_le (rank r.step) (rank step) ≡ false → turn_of n keeps r s step ≡ None
 no_turn n keeps r s step behind =
@@ -132,11 +127,6 @@ is_behind a b x y here there h = grind (arith, nat_tests, here, there, h)
 
 pub is_ahead : (a b x y : ℕ) → x ≡ a → y ≡ b → y ≤ x → nat_le b a ≡ true
 is_ahead a b x y here there h = grind (arith, nat_tests, here, there, h)
-
--- a step that asks nobody leaves none
-pub none_left : (p : Register) (s : ℕ) (step given : TheStep) → step ≡ given → ((x : ℕ) → set_of p.shape.n (keeps_in p.shape) (seen_as p) s (step_of given) x ≡ false) → AreLeft p s step []
-none_left p s step given e none x few =
-    sym (ap (λ (there : Bool). there && not (asked_in (seen_as p) (step_of step) x)) (ap (λ (step : TheStep). set_of p.shape.n (keeps_in p.shape) (seen_as p) s (step_of step) x) e ∙ none x))
 
 -- in a step that is behind the actor it is nobody's turn
 pub not_its_turn : (n : ℕ) (keeps : ℕ → Kind → Bool) (r : Exact) (s : ℕ) (step : Step) (b : ℕ) → nat_le (rank r.step) (rank step) ≡ false → turn n keeps r s step b ≡ false

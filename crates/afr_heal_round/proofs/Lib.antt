@@ -1,4 +1,3 @@
-pub mod List
 pub mod Fed
 mod Indexed
 pub mod Shapes

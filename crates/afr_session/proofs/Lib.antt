@@ -1,2 +1,1 @@
 mod EpochLemmas
-mod StopLemmas
