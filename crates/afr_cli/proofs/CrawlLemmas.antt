@@ -3,6 +3,7 @@ use Rattle.std.proofs.Common.{◌≡◌, ◌∙◌, ◌⊎◌, inl, inr, ℕ, su
 use Rattle.std.proofs.lemmas.Bool.{cases_lt}
 use Rattle.std.proofs.lemmas.Bool.Decides.{nat_tests}
 use Rattle.std.proofs.lemmas.List.Sums.{sum_by-cons}
+use Rattle.std.proofs.lemmas.Option.{get_or_from_slice_get}
 use Rattle.std.specs.Prelude.{is_some, option_and_then, slice_index_or, sum}
 use Rattle.afr_base.specs.declared.ids.BrickId.{BrickId}
 use Rattle.afr_base.specs.declared.ids.Gfid.{Gfid}
@@ -10,7 +11,7 @@ use Rattle.afr_base.specs.declared.ids.What.{What}
 use Rattle.afr_lines.specs.Work.{ended, is_killed, work}
 use Rattle.afr_lines.specs.declared.line.Line.{Line}
 use Rattle.afr_lines.specs.declared.line.Line.TheVariants.{Ask, Begin, End, Event, HealBegin, HealEnd}
-use Rattle.afr_model.specs.Actors.{IsActor, is_done, works_of}
+use Rattle.afr_model.specs.Actors.{IsActor, is_done, rounds_of, works_of}
 use Rattle.afr_model.specs.Complete.{IsComplete, IsFinished}
 use Rattle.afr_model.specs.Crawl.{CanCrawl, IsTried, IsWorker, item_by, items_of, lists_by, tasks_by, with_item}
 use Rattle.afr_plan.specs.declared.plan.Plan.{Plan}
@@ -20,6 +21,31 @@ use Rattle.afr_volume.specs.Tasks.{has_task, is_done_in, task_by}
 use Rattle.afr_workers.specs.Crew.{IsCrawled, IsTriedIn}
 use Rattle.afr_cli.specs.Crawl.{AreDoneIn, IsCrawlLeft, IsLeftIn}
 use Rattle.afr_cli.specs.Statuses.{IsFull}
+
+-- ---- plans
+-- the second healer and the third are the workers
+pub can_by : (p : Plan) → length p.healers ≡ 3 → slice_index_or p.healers 1 [] ≡ [] → slice_index_or p.healers 2 [] ≡ [] → CanCrawl p
+can_by p three second third = record { healers = three; crawls = none }
+  where
+    none : (a : ℕ) → IsWorker a → rounds_of p a ≡ []
+    none a worker = elim (cases_lt a 19) [
+      | inl low ↦ let place : a - 17 ≡ 1 = omega (arith, worker.0, low) in ap (λ (i : ℕ). get_or p.healers i []) place ∙ second
+      | inr high ↦ let place : a - 17 ≡ 2 = omega (arith, worker.1, high) in ap (λ (i : ℕ). get_or p.healers i []) place ∙ third
+    ]
+
+pub second_rests : (p : Plan) → CanCrawl p → slice_index_or p.healers 1 [] ≡ []
+second_rests p can = can.crawls 18 (omega arith, omega arith)
+
+pub third_rests : (p : Plan) → CanCrawl p → slice_index_or p.healers 2 [] ≡ []
+third_rests p can = can.crawls 19 (omega arith, omega arith)
+
+-- the healer at a place has no rounds exactly where its list has no length
+pub none_there : (p : Plan) (at : ℕ) (one : List BrickId) → slice_get p.healers at ≡ Some one → length one ≡ 0 → slice_index_or p.healers at [] ≡ []
+none_there p at [] there e = get_or_from_slice_get p.healers at [] [] there
+none_there p at (b ∷ more) there e = absurd (omega (arith, e))
+
+pub length_there : (p : Plan) (at : ℕ) (one : List BrickId) → slice_get p.healers at ≡ Some one → slice_index_or p.healers at [] ≡ [] → length one ≡ 0
+length_there p at one there e = ap length (sym (get_or_from_slice_get p.healers at one [] there) ∙ e)
 
 -- ---- tasks
 -- there are at most as many as works that ended

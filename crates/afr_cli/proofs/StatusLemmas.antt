@@ -8,6 +8,7 @@ use Rattle.afr_plan.specs.declared.plan.PlanFault.{PlanFault}
 use Rattle.afr_plan.specs.Judging.{first_fault}
 use Rattle.afr_plan.specs.Spells.{Spells}
 use Rattle.afr_model.specs.Chosen.{Picks}
+use Rattle.afr_volume.proofs.ChosenLemmas.{no_volume_chosen}
 use Rattle.afr_volume.specs.State.{IsChosen, State, no_volume}
 use Rattle.afr_model.specs.Ordered.{IsOrdered, Writes}
 use Rattle.afr_model.specs.Complete.{IsComplete}
@@ -22,6 +23,10 @@ use Rattle.afr_cli.specs.Statuses.{IsOver, AreReading, IsPlanOf, IsPlanOfWords, 
 -- before a plan was handed in nothing was written, in any order
 pub nothing_ordered : (v : State) → v ≡ no_volume → IsOrdered v.plan v.log
 nothing_ordered v e = rw e (record { turns = []; later = []; rounds = 0; stated = refl; written = Writes.Nothing })
+
+-- nothing was read, and no heal had a source
+pub nothing_chosen : (v : State) → v ≡ no_volume → (reads heals : Picks) → IsChosen reads heals v
+nothing_chosen v e reads heals = subst (IsChosen reads heals) (sym e) (no_volume_chosen reads heals)
 
 -- a text that was written with its status s has no other but 5
 pub other_status : (r s n : ℕ) (A : Type 0) → (r ≢ 5 → (r ≡ s) × A) → (n ≡ 5 → ⊥) → (n ≡ s → ⊥) → r ≡ n → ⊥

@@ -84,6 +84,11 @@ pub all_asked : (m : ℕ) → m ≤ 5 → (set asked left : List ℕ) → left �
 all_asked m few set asked left is =
     sym (over_left m few (member set) (member asked) (member left) (λ x l. ap (λ (t : List ℕ). member t x) is ∙ member_minus set asked x ∙ turned_round (member asked x) (member set x)))
 
+-- each brick of the step below a number was asked exactly where none of them is left
+pub over_is_none_left : (m : ℕ) → m ≤ 5 → (p : Register) (s : ℕ) (step : TheStep) (left : List ℕ) → AreLeft p s step left
+    → over m (set_of p.shape.n (keeps_in p.shape) (seen_as p) s (step_of step)) (asked_in (seen_as p) (step_of step)) ≡ not (any m (member left))
+over_is_none_left m few p s step left are = over_left m few (set_of p.shape.n (keeps_in p.shape) (seen_as p) s (step_of step)) (asked_in (seen_as p) (step_of step)) (member left) are
+
 -- a step that is behind the actor is nobody's turn
 pub no_turn : (n : ℕ) (keeps : ℕ → Kind → Bool) (r : Exact) (s : ℕ) (step : Step) → nat_le (rank r.step) (rank step) ≡ false → turn_of n keeps r s step ≡ None
 no_turn n keeps r s step behind =

@@ -1,3 +1,4 @@
+pub mod List
 pub mod Fed
 mod Indexed
 pub mod Shapes

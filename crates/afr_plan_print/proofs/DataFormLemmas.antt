@@ -1,15 +1,24 @@
 -- Which form of data is the shortest.
 use Rattle.std.proofs.Common.{◌≡◌, ℕ, ◌+◌, ◌*◌, ◌/◌, ◌%◌, ◌<◌, ◌≤◌, ◌^◌, List, [], ◌∷◌, ◌++◌, length, Option, Some, None, refl, sym, arith, Bool, true, false, cond, length-append, codes, if◌then◌else◌}
 use Rattle.std.specs.Prelude.{nat_le, nat_lt, decimal}
+use Rattle.std.specs.List.{list_all}
 use Rattle.std.specs.Str.{IsAscii}
 use Rattle.std.proofs.lemmas.Str.Ascii.{IsAscii-cons, IsAscii-nil}
 use Rattle.std.proofs.lemmas.Bool.Decides.{nat_tests}
 use Rattle.std.proofs.lemmas.Fmt.{decimal_by_steps, decimal_nonempty, length-decimal-le}
 use Rattle.hex.specs.Hex.{lower_digits, encode_lower}
 use Rattle.hex.proofs.HexLemmas.{length-encode_with}
+use Rattle.afr_plan.specs.Bytes.{text_byte}
 use Rattle.afr_plan_print.specs.PrintedData.{text_form, hex_form, fill_form, is_text_data, only_byte, fill_forms, shorter, shortest, data_text}
 use Rattle.afr_plan_print.specs.DataForm.{form_text, picked}
 use Rattle.afr_plan_print.specs.declared.data_forms.Form.TheVariants.{Text, Hex, Fill}
+
+pub text_ascii : (bs : List ℕ) → is_text_data bs ≡ true → IsAscii bs
+text_ascii [] h = IsAscii-nil
+text_ascii (b ∷ bs) h =
+    let one : b < 128 = grind (arith, nat_tests) in
+    let more : list_all text_byte bs ≡ true = grind (arith, nat_tests) in
+    IsAscii-cons b bs one (text_ascii bs more)
 
 -- ---- lengths
 pub length-text_form : (bs : List ℕ) → length (text_form bs) ≡ length bs + 2
@@ -88,3 +97,10 @@ picked_text false (Some b) n h = absurd (step (nat_le 3 n) h)
     step : (c : Bool) → cond c (Fill b) Hex ≡ Text → ⊥
     step true h = cc
     step false h = cc
+
+pub all_ascii : (bs : List ℕ) → list_all (λ b. nat_lt b 128) bs ≡ true → IsAscii bs
+all_ascii [] h = IsAscii-nil
+all_ascii (b ∷ bs) h =
+    let one : b < 128 = grind (arith, nat_tests) in
+    let more : list_all (λ b. nat_lt b 128) bs ≡ true = grind (arith, nat_tests) in
+    IsAscii-cons b bs one (all_ascii bs more)

@@ -1,5 +1,6 @@
 -- The parts of a plan's text are the text of its lines.
 use Rattle.std.proofs.Common.{◌≡◌, ℕ, List, [], ◌∷◌, ◌++◌, refl, sym, ap, ◌∙◌, suc, map, append_assoc, codes}
+use Rattle.std.proofs.lemmas.List.{append-nil}
 use Rattle.afr_plan.specs.declared.plan.Plan.{Plan}
 use Rattle.afr_plan.specs.TextLines.{bytes_of}
 use Rattle.afr_plan.specs.Said.{Said, Client, Healer, End}
@@ -34,6 +35,9 @@ parts_text-plan p =
     sym (six_parts (head_lines p) (client_lines p.words p.clients) (healer_lines p.healers) (map said_fault p.faults) (map said_event p.events) (map said_order p.go) (End ∷ [])
     ∙ ap (λ (t : List ℕ). lines_text (head_lines p) ++ t ++ lines_text (healer_lines p.healers) ++ lines_text (map said_fault p.faults) ++ lines_text (map said_event p.events) ++ lines_text (map said_order p.go) ++ codes "end\n") (groups Client (said_command p.words) 1 p.clients)
     ∙ ap (λ (t : List ℕ). lines_text (head_lines p) ++ clients_text p.words 1 p.clients ++ t ++ lines_text (map said_fault p.faults) ++ lines_text (map said_event p.events) ++ lines_text (map said_order p.go) ++ codes "end\n") (groups Healer said_round 1 p.healers))
+
+pub four_lines : (o a b c d : List ℕ) → (o ++ (a ++ b)) ++ (c ++ d) ≡ o ++ (a ++ (b ++ (c ++ (d ++ []))))
+four_lines o a b c d = append_assoc o (a ++ b) (c ++ d) ∙ ap (λ (t : List ℕ). o ++ t) (append_assoc a b (c ++ d) ∙ ap (λ (t : List ℕ). a ++ (b ++ (c ++ t))) (sym (append-nil d)))
 
 -- a line in version 2 with its line feed
 pub second_line : (o kind n : List ℕ) → o ++ (codes "afr 2\nvolume " ++ (kind ++ (codes " " ++ (n ++ codes "\n")))) ≡ o ++ (codes "afr 2\n" ++ ((codes "volume " ++ (kind ++ (codes " " ++ n))) ++ codes "\n"))

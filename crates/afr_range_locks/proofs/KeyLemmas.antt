@@ -4,7 +4,7 @@ use Rattle.std.proofs.lemmas.Bool.Decides.{nat_tests}
 use Rattle.std.proofs.lemmas.Cmp.{nat_cmp_total, on_total, then_total, tied_itself}
 use Rattle.std.specs.BTreeMap.Range.{range_contains}
 use Rattle.std.specs.Cmp.{IsTotalOrder, ranks}
-use Rattle.std.specs.Ordering.{MatchOrdering, is_eq, is_le, nat_cmp, ordering_reverse, ordering_then}
+use Rattle.std.specs.Ordering.{MatchOrdering, is_eq, is_gt, is_le, nat_cmp, ordering_reverse, ordering_then}
 use Rattle.std.specs.declared.cmp.Ordering.{Ordering}
 use Rattle.std.specs.declared.cmp.Ordering.TheVariants.{Less, Equal, Greater}
 use Rattle.std.specs.declared.ops.Bound.TheVariants.{Included, Excluded}
@@ -65,11 +65,17 @@ at_one_place domain place m n = simp nat_itself
 pub granted_later : (domain : Domain) (place : Place) (m n : ℕ) → key_cmp (key_of domain place m) (key_of domain place n) ≡ Less → m < n
 granted_later domain place m n e = nat_less m n (sym (at_one_place domain place m n) ∙ e)
 
+isnt_greater : (m n : ℕ) → m ≤ n → is_gt (nat_cmp m n) ≡ false
+isnt_greater m n h = by_cmp m n (λ r. is_gt r ≡ false) (λ less. refl) (λ same. refl) (λ more. absurd (omega (arith, more, h)))
+
 is_low : (m n : ℕ) → m ≤ n → is_le (nat_cmp m n) ≡ true
 is_low m n h = by_cmp m n (λ r. is_le r ≡ true) (λ less. refl) (λ same. refl) (λ more. absurd (omega (arith, more, h)))
 
 isnt_low : (m n : ℕ) → n < m → is_le (nat_cmp m n) ≡ false
 isnt_low m n h = by_cmp m n (λ r. is_le r ≡ false) (λ less. absurd (omega (arith, less, h))) (λ same. absurd (omega (arith, same, h))) (λ more. refl)
+
+pub at_place_forward : (domain : Domain) (place : Place) (m n : ℕ) → m ≤ n → is_gt (key_cmp (key_of domain place m) (key_of domain place n)) ≡ false
+at_place_forward domain place m n h = ap is_gt (at_one_place domain place m n) ∙ isnt_greater m n h
 
 pub at_place_contains : (domain : Domain) (place : Place) (from next n : ℕ) → from ≤ n → n < next
     → range_contains key_cmp (Included (key_of domain place from)) (Excluded (key_of domain place next)) (key_of domain place n) ≡ true
@@ -81,11 +87,18 @@ on_one_object : (domain : Domain) (g : Gfid) (s t m n : ℕ)
     → key_cmp (key_of domain (record { gfid = g; start = s }) m) (key_of domain (record { gfid = g; start = t }) n) ≡ ordering_then (nat_cmp s t) (nat_cmp m n)
 on_one_object domain g s t m n = simp nat_itself
 
+starts_forward : (s t n : ℕ) → s ≤ t → is_gt (ordering_then (nat_cmp s t) (nat_cmp 0 n)) ≡ false
+starts_forward s t n h = by_cmp s t (λ r. is_gt (ordering_then r (nat_cmp 0 n)) ≡ false) (λ less. refl) (λ same. isnt_greater 0 n (omega arith)) (λ more. absurd (omega (arith, more, h)))
+
 starts_low : (s t n : ℕ) → s ≤ t → is_le (ordering_then (nat_cmp s t) (nat_cmp 0 n)) ≡ true
 starts_low s t n h = by_cmp s t (λ r. is_le (ordering_then r (nat_cmp 0 n)) ≡ true) (λ less. refl) (λ same. is_low 0 n (omega arith)) (λ more. absurd (omega (arith, more, h)))
 
 starts_high : (s t m n : ℕ) → t ≤ s → n < m → is_le (ordering_then (nat_cmp s t) (nat_cmp m n)) ≡ false
 starts_high s t m n h high = by_cmp s t (λ r. is_le (ordering_then r (nat_cmp m n)) ≡ false) (λ less. absurd (omega (arith, less, h))) (λ same. isnt_low m n high) (λ more. refl)
+
+pub span_forward : (domain : Domain) (g : Gfid) (span : Span) (next : ℕ) → span.from ≤ span.to
+    → is_gt (key_cmp (key_of domain (record { gfid = g; start = span.from }) 0) (key_of domain (record { gfid = g; start = span.to }) next)) ≡ false
+span_forward domain g span next h = ap is_gt (on_one_object domain g span.from span.to 0 next) ∙ starts_forward span.from span.to next h
 
 is_in_parts : (span : Span) (start : ℕ) → is_in span start ≡ true → (span.from ≤ start) × (start ≤ span.to)
 is_in_parts span start e = (grind (arith, nat_tests, e), grind (arith, nat_tests, e))

@@ -2,8 +2,15 @@
 use Rattle.std.proofs.Common.{◌≡◌, ℕ, zero, suc, ◌+◌, ◌/◌, ◌%◌, ◌<◌, ◌≤◌, ◌==◌, ◌&&◌, ◌++◌, ◌∙◌, Bool, true, List, [], ◌∷◌, refl, arith, inl, inr, slice_index, sym, ap}
 use Rattle.std.specs.Prelude.{decimal}
 use Rattle.std.proofs.lemmas.Bool.{and_parts, cases_lt, eqb-true}
+use Rattle.std.proofs.lemmas.Fmt.{decimal_digit, decimal_step}
 use Rattle.hex.specs.Hex.{encode_lower, encode_with, lower_digits}
 use Rattle.afr_model.specs.ReportReplies.{hex_digit, hex_text}
+
+pub one_digit : (n : ℕ) → n < 10 → decimal n ≡ (48 + n) ∷ []
+one_digit n h = decimal_digit n h
+
+pub two_digits : (n : ℕ) → 10 ≤ n → n < 100 → decimal n ≡ decimal (n / 10) ++ decimal (n % 10)
+two_digits n some few = decimal_step n some (omega (arith, few)) ∙ ap (λ (last : List ℕ). decimal (n / 10) ++ last) (sym (one_digit (n % 10) (omega arith)))
 
 -- the digits of both tables below a number are the same
 abbrev are_same : ℕ → Bool

@@ -12,7 +12,7 @@ use Rattle.afr_plan.specs.Bytes.{name_byte}
 use Rattle.afr_plan.specs.declared.plan.Plan.{Plan}
 use Rattle.afr_model.specs.ReportReplies.{in_order, name_texts, placed, precedes}
 use Rattle.afr_plan_read.proofs.Laws.{Stops}
-use Rattle.afr_trace_read.specs.Contents.{bytes_of_name, is_before, comes_after, name_behind, and_more, names_on}
+use Rattle.afr_trace_read.specs.Contents.{bytes_of_name, is_before, comes_after, name_behind, and_more, names_on, names_told}
 use Rattle.afr_trace_read.specs.Fit.{AreListed, IsNameOf, IsNotAmong}
 use Rattle.afr_trace_read.proofs.Laws.{Takes, Again, word_then-takes, word_then-again, such_that-takes, such_that-again}
 use Rattle.afr_trace_read.proofs.PartLaws.{name-takes, name-again}
@@ -68,9 +68,41 @@ pub behind-again : (p : Plan) (last : Option NameId) → Again (name_behind p la
 unfolding name_behind
 behind-again p last = such_that-again _ (comes_after p last) _ _ _ (word_then-again (codes " ") _ _ _ _ (name-again p))
 
+pub shorter : (p : Plan) (last : Option NameId) (rest more : List ℕ) (name : NameId) → Some (name, more) ≡ name_behind p last rest → length more < length rest
+shorter p last rest more name e =
+    let u = (behind-takes p last).read rest name more (sym e) in
+    let long : length rest ≡ length ((codes " " ++ bytes_of_name p name) ++ more) = ap length u.1 in
+    omega (arith, long, length-append (codes " " ++ bytes_of_name p name) more, length-append (codes " ") (bytes_of_name p name))
+
 pub same_some : {A B : Type 0} (f : A → B) (o : Option A) → is_some (option_map f o) ≡ is_some o
 same_some f None = refl
 same_some f (Some x) = refl
+
+-- ---- as many steps as are needed
+more_same : (o : Option (NameId × List ℕ)) (f g : NameId → List ℕ → Option (List NameId)) → ((x : NameId × List ℕ) → o ≡ Some x → f x.0 x.1 ≡ g x.0 x.1) → and_more o f ≡ and_more o g
+more_same None f g h = refl
+more_same (Some x) f g h = ap (option_map (λ (names : List NameId). x.0 ∷ names)) (h x refl)
+
+pub same_steps : (p : Plan) (m n : ℕ) (last : Option NameId) (rest : List ℕ) → length rest ≤ m → length rest ≤ n → names_on p m last rest ≡ names_on p n last rest
+same_steps p m n last [] l k = refl
+same_steps p zero n last (b ∷ bs) l k = absurd (omega (arith, l))
+same_steps p (suc m) zero last (b ∷ bs) l k = absurd (omega (arith, k))
+same_steps p (suc m) (suc n) last (b ∷ bs) l k = more_same (name_behind p last (b ∷ bs)) (λ name rest. names_on p m (Some name) rest) (λ name rest. names_on p n (Some name) rest)
+    (λ x e. let less : length x.1 < length (b ∷ bs) = shorter p last (b ∷ bs) x.1 x.0 (sym e) in same_steps p m n (Some x.0) x.1 (omega (arith, less, l)) (omega (arith, less, k)))
+
+pub told_one : (p : Plan) (last : Option NameId) (rest more : List ℕ) (name : NameId) → Some (name, more) ≡ name_behind p last rest → names_told p last rest ≡ option_map (λ (names : List NameId). name ∷ names) (names_told p (Some name) more)
+told_one p last [] more name e = absurd (let less = shorter p last [] more name e in omega (arith, less))
+told_one p last (b ∷ bs) more name e =
+    let less : length more < length (b ∷ bs) = shorter p last (b ∷ bs) more name e in
+    ap (λ (o : Option (NameId × List ℕ)). and_more o (λ next rest. names_on p (length bs) (Some next) rest)) (sym e)
+    ∙ ap (option_map (λ (names : List NameId). name ∷ names)) (same_steps p (length bs) (length more) (Some name) more (omega (arith, less)) (omega arith))
+
+pub one_name : (p : Plan) (last : Option NameId) (rest more : List ℕ) (name : NameId) → Some (name, more) ≡ name_behind p last rest → is_some (names_told p (Some name) more) ≡ is_some (names_told p last rest)
+one_name p last rest more name e = sym (ap is_some (told_one p last rest more name e) ∙ same_some (λ (names : List NameId). name ∷ names) (names_told p (Some name) more))
+
+pub no_name : (p : Plan) (last : Option NameId) (rest : List ℕ) → None ≡ name_behind p last rest → 0 < length rest → is_some (names_told p last rest) ≡ false
+no_name p last [] e some = absurd (omega (arith, some))
+no_name p last (b ∷ bs) e some = ap (λ (o : Option (NameId × List ℕ)). is_some (and_more o (λ next rest. names_on p (length bs) (Some next) rest))) (sym e)
 
 -- ---- what is read
 -- each comes after the one before

@@ -3,12 +3,14 @@ use Rattle.std.proofs.Common.{◌≡◌, ℕ, zero, suc, ◌+◌, ◌≤◌, ◌
 use Rattle.std.proofs.lemmas.List.{get_or-take, get_or-drop, take_all}
 use Rattle.std.proofs.lemmas.Option.{same_Some}
 use Rattle.std.specs.Option.{option_map}
+use Rattle.std.specs.BTreeMap.{is_at}
+use Rattle.std.specs.Map.{lookup}
 use Rattle.afr_base.specs.declared.ids.Gfid.{Gfid}
 use Rattle.afr_base.specs.declared.ids.KeyId.{KeyId}
 use Rattle.afr_base.specs.declared.ids.NameId.{NameId}
 use Rattle.afr_base.specs.declared.ids.ValueId.{ValueId}
 use Rattle.afr_object.specs.Bytes.{byte_at}
-use Rattle.afr_object.specs.Tables.{copy_at}
+use Rattle.afr_object.specs.Tables.{copy_at, key_cmp, name_cmp, view_of}
 use Rattle.afr_object.specs.declared.entry.Entry.{Entry}
 use Rattle.afr_object.specs.declared.entry.View.{View}
 use Rattle.afr_object.specs.Object.{Object}
@@ -32,6 +34,14 @@ byte_past (suc i) (x ∷ bytes) h = byte_past i bytes (omega (arith, h))
 pub byte_beyond : (g : Gfid) (i : ℕ) (o : Option Object) → length (content_in o) ≤ i → IsByte 0 ≡ value_if (Byte g i) o
 byte_beyond g i None h = refl
 byte_beyond g i (Some o) h = ap (λ (n : ℕ). IsByte n) (sym (byte_past i o.content h))
+
+pub len_seen : (o : Option Object) (view : View) → Some view ≡ option_map view_of o → view.len ≡ length (content_in o)
+len_seen None view e = absurd (cc e)
+len_seen (Some o) view e = ap (λ (v : View). v.len) (same_Some view (view_of o) e)
+
+pub len_absent : (o : Option Object) → None ≡ option_map view_of o → 0 ≡ length (content_in o)
+len_absent None e = refl
+len_absent (Some o) e = absurd (cc e)
 
 first_of : (i : ℕ) (content : List ℕ) → byte_at 0 (take 1 (drop i content)) ≡ byte_at i content
 first_of i content = get_or-take 1 (drop i content) 0 0 (omega arith) ∙ get_or-drop i content 0 0 ∙ ap (λ (k : ℕ). get_or content k 0) (let same : i + 0 ≡ i = omega arith in same)
@@ -71,6 +81,15 @@ names_read (Some o) names h = sym (same_Some _ _ h)
 
 pub names_absent : (o : Option Object) → o ≡ None → [] ≡ names_in o
 names_absent o h = rw h refl
+
+-- one of them
+pub attr_read : (g : Gfid) (key : KeyId) (o : Option Object) (value : Option ValueId) → option_map (λ x. lookup (is_at (key_cmp key)) x.attrs) o ≡ Some value → IsAttr value ≡ value_if (Attr g key) o
+attr_read g key None value h = absurd (cc h)
+attr_read g key (Some o) value h = ap IsAttr (sym (same_Some _ _ h))
+
+pub entry_read : (g : Gfid) (name : NameId) (o : Option Object) (entry : Option Entry) → option_map (λ x. lookup (is_at (name_cmp name)) x.names) o ≡ Some entry → IsEntry entry ≡ value_if (Name g name) o
+entry_read g name None entry h = absurd (cc h)
+entry_read g name (Some o) entry h = ap IsEntry (sym (same_Some _ _ h))
 
 -- ---- tables without numbers
 value_bare : (cell : Cell) (o : Option Object) → value_if cell (option_map bare_object o) ≡ value_if cell o

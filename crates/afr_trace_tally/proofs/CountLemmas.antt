@@ -189,6 +189,19 @@ small_either : (b : Bool) (n : ℕ) (d c : Count) → IsOne d → IsSmall n c �
 small_either true n d c o s = small_plus n d c o s
 small_either false n d c o s = small_more n c s
 
+zero_small : (m b : ℕ) → b < 5 → slice_index (five (λ b. 0)) b ≤ m
+zero_small m b l = rw (five_at (λ b. 0) b l) (omega arith)
+
+-- what one request counts
+pub one_pre : IsOne (record no_count { opened = 1 })
+one_pre = record { opened = omega arith; closed = omega arith; blamed = zero_small 1; settled = zero_small (1 * 2 ^ 32) }
+
+pub one_post : (blamed : List ℕ) → ((b : ℕ) → b < 5 → slice_index blamed b ≤ 1) → IsOne (record no_count { closed = 1; blamed = blamed })
+one_post blamed h = record { opened = omega arith; closed = omega arith; blamed = h; settled = zero_small (1 * 2 ^ 32) }
+
+pub one_settle : (closed : ℕ) (settled : List ℕ) → closed ≤ 4294967296 → ((b : ℕ) → b < 5 → slice_index settled b ≤ 4294967296) → IsOne (record no_count { closed = closed; settled = settled })
+one_settle closed settled hc hs = record { opened = omega arith; closed = omega (arith, hc); blamed = zero_small 1; settled = λ b l. omega (arith, hs b l) }
+
 -- a line that counts nothing here leaves what is kept
 pub counted_same : (p : Plan) (line : Line) (older : List Line) (x : ℕ) (counts : Counts) → ((g : Gfid) (kind : Kind) → count_here (counted_by x line) g kind (has_object p older g x) ≡ no_count)
     → AreCounted p older x counts → AreCounted p (line ∷ older) x counts

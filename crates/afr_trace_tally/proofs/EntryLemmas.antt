@@ -1,5 +1,7 @@
 -- What was shown at each position of a log to those that asked for a name.
 use Rattle.std.proofs.Common.{◌≡◌, ◌∙◌, ℕ, suc, ◌==◌, Bool, true, false, List, [], ◌∷◌, ◌++◌, length, ap, sym, refl, Option, Some, None, reverse, slice_get, if◌then◌else◌}
+use Rattle.std.specs.BTreeMap.{is_at}
+use Rattle.std.specs.Map.{lookup}
 use Rattle.std.specs.Prelude.{option_map}
 use Rattle.std.proofs.lemmas.List.{reverse-append}
 use Rattle.afr_base.specs.declared.ids.Gfid.{Gfid}
@@ -11,13 +13,26 @@ use Rattle.afr_lines.specs.declared.line.Line.TheVariants.{Ask}
 use Rattle.afr_lines.specs.declared.request.Request.TheVariants as request
 use Rattle.afr_model.specs.Tables.{Past, entry_at, entry_in, held_before}
 use Rattle.afr_object.specs.Object.{Object}
-use Rattle.afr_object.specs.Tables.{Table, copy_at}
+use Rattle.afr_object.specs.Tables.{Table, copy_at, name_cmp}
 use Rattle.afr_object.specs.declared.entry.Entry.{Entry}
 use Rattle.afr_plan.specs.declared.plan.Plan.{Plan}
 use Rattle.afr_trace_tables.proofs.BareLaws.{copy_bare}
 use Rattle.afr_trace_tables.proofs.PlainLaws.{IsBare, past_bare}
 use Rattle.afr_trace_tables.specs.Plain.{bare_object, plain_tables}
 use Rattle.afr_trace_tally.specs.Entries.{all_entries, entry_by, entry_shown, or_no_entry}
+
+-- ---- what a brick shows
+-- what a read of a name gives is the name's entry
+pub read_entry : (g : Gfid) (name : NameId) (t : Table) (entry : Option Entry) → option_map (λ (o : Object). lookup (is_at (name_cmp name)) o.names) (copy_at g t) ≡ Some entry → entry ≡ entry_at g name t
+read_entry g name t entry h = by_copy (copy_at g t) h
+  where
+    by_copy : (o : Option Object) → option_map (λ (o : Object). lookup (is_at (name_cmp name)) o.names) o ≡ Some entry → entry ≡ entry_in name o
+    by_copy None e = absurd (cc)
+    by_copy (Some o) e = cc
+
+-- an object that isn't there has none
+pub no_entry : (g : Gfid) (name : NameId) (t : Table) → copy_at g t ≡ None → entry_at g name t ≡ None
+no_entry g name t h = ap (entry_in name) h
 
 -- ---- what was shown at a position
 length_entries : (p : Plan) (log : List Line) → length (all_entries p log) ≡ length log

@@ -23,7 +23,7 @@ use Rattle.afr_plan.specs.declared.plan.Plan.{Plan}
 use Rattle.afr_law_picks.specs.Readings.{PickAnswers}
 use Rattle.afr_law_picks.proofs.Sources.Turns.{event_keeps}
 use Rattle.afr_law_picks.proofs.Sources.Turns as sources
-use Rattle.afr_volume.specs.State.{AreRead, HealsChosen, IsChosen, ReadsChosen, State, opened}
+use Rattle.afr_volume.specs.State.{AreRead, HealsChosen, IsChosen, ReadsChosen, State, no_volume, opened}
 use Rattle.afr_volume.specs.Turning.{AddsLine, Comes, Turns}
 use Rattle.afr_volume.specs.declared.turned.Turned.{Turned}
 use Rattle.afr_volume.specs.declared.turned.Turned.TheVariants.{Ended, Full, Moved, Waits}
@@ -124,4 +124,10 @@ pub opened_chosen : (reads heals : Picks) (p : Plan) → IsChosen reads heals (o
 opened_chosen reads heals p = record {
   of_reads = record { past = tt; present = λ i brick small is. answers_none reads brick (none_at (length p.clients) i brick is) };
   of_heals = λ plain. sources.none_chosen heals p (replicate (length p.healers) None);
+}
+
+pub no_volume_chosen : (reads heals : Picks) → IsChosen reads heals no_volume
+no_volume_chosen reads heals = record {
+  of_reads = record { past = tt; present = λ i brick small is. absurd (cc is) };
+  of_heals = λ plain. sources.none_chosen heals no_volume.plan [];
 }
