@@ -5,7 +5,7 @@ ghost use Rattle.afr_image.specs.Logs.{HasShortActors};
 ghost use Rattle.afr_lines.specs.declared.line.Line.{Line};
 
 use crate::image::StepList;
-use crate::step::{Step, asked_step, step_of};
+use crate::step::{Step, asked_step, step_of, told_step};
 use afr_base::NoMemory;
 use afr_lines::{Request, Told};
 use afr_log::Log;
@@ -37,9 +37,22 @@ pub fn step_at(log: &Log, at: usize) -> Step
     }
 }
 
-/// The same of whatever line. It stands apart, so that only lines which are no packed requests pay for a frame with a line.
+/// The same of whatever line. It stands apart, so that only lines which are no packed requests pay for its frame.
 #[inline(never)]
 fn kept_step(log: &Log, at: usize) -> Step
+    requires there { at < length log.now.items }
+    requires short { HasShortActors log.now.items }
+    ensures { (line : Line) → slice_get log.now.items at ≡ Some line → result ≡ step_of line }
+{
+    match log.told_at(at) {
+        Some(told) => told_step(told),
+        None => shown_step(log, at),
+    }
+}
+
+/// The same of a request that the log keeps as it is. It stands apart, so that only such requests pay for a frame with a line.
+#[inline(never)]
+fn shown_step(log: &Log, at: usize) -> Step
     requires there { at < length log.now.items }
     requires short { HasShortActors log.now.items }
     ensures { (line : Line) → slice_get log.now.items at ≡ Some line → result ≡ step_of line }
