@@ -18,13 +18,6 @@ use Rattle.afr_volume.specs.Right.{IsRight}
 use Rattle.afr_cli.specs.Live.{IsRecorded, image_text}
 use Rattle.afr_cli.specs.Statuses.{IsSpelled}
 
--- a volume has at most as many steps as its plan has turns
-pub few_steps : (log items : List Line) (seen steps : List Step) (turns : ℕ) → seen ≡ steps → steps ≡ map step_of items → reverse items ≡ log → length log ≤ turns → turns ≤ 4000000 → length seen < 2 ^ 32
-few_steps log items seen steps turns same made is room most =
-    let mapped : length seen ≡ length items = ap length (same ∙ made) ∙ length-map items step_of in
-    let turned : length items ≡ length log = sym (length-reverse items) ∙ ap length is in
-    omega (arith, mapped, turned, room, most)
-
 -- the plan and the steps are those of the image
 pub image_is : (p : Plan) (log : List Line) (q : Plan) (steps : List Step) → q ≡ p → steps ≡ map step_of (reverse log) → bytes_with (plan_text q) steps ≡ image_text p log
 unfolding image_text

@@ -1,11 +1,13 @@
 //! The steps of a log.
-ghost use Rattle.std.specs.Prelude.{◌≡◌, ◌<◌, ◌^◌, IfOk, Some, length, map, slice_get};
-ghost use Rattle.afr_image.specs.Steps.{step_of};
+ghost use Rattle.std.specs.Prelude.{◌≡◌, ◌++◌, ◌<◌, ◌^◌, IfOk, OnOk, Some, length, map, slice_get};
+ghost use Rattle.afr_image.specs.Steps.{step_of, steps_bytes};
 ghost use Rattle.afr_image.specs.Logs.{HasShortActors};
 ghost use Rattle.afr_lines.specs.declared.line.Line.{Line};
 
+use crate::frame::STEP;
 use crate::image::StepList;
 use crate::step::{Step, asked_step, step_of, told_step};
+use crate::steps::push_step;
 use afr_base::NoMemory;
 use afr_lines::{Request, Told};
 use afr_log::Log;
@@ -21,6 +23,19 @@ pub fn steps_of(alloc: Global, log: &Log) -> Result<StepList, NoMemory>
         steps.push(step_at(log, at))?;
     }
     Ok(StepList::from_vec(steps))
+}
+
+/// Adds the bytes of the steps of all lines, the oldest first. Room for them is made first.
+pub(crate) fn push_lines(out: &mut Vec<u8>, log: &Log) -> Result<(), NoMemory>
+    requires few { length log.now.items < 2 ^ 32 }
+    requires short { HasShortActors log.now.items }
+    ensures ok { OnOk result (out.new.items ≡ out.old.items ++ steps_bytes (map step_of log.now.items)) }
+{
+    out.try_reserve(STEP * log.len())?;
+    for at in 0..log.len() {
+        push_step(out, step_at(log, at));
+    }
+    Ok(())
 }
 
 /// The step of the line at a place, counted from the oldest. No line is made of a packed request.

@@ -76,7 +76,7 @@ pub(crate) fn push_steps(out: &mut Vec<u8>, steps: &[Step]) -> Result<(), NoMemo
 }
 
 /// Adds the bytes of a step, for which there is room.
-fn push_step(out: &mut Vec<u8>, step: Step)
+pub(crate) fn push_step(out: &mut Vec<u8>, step: Step)
     requires { vec_len out.old + 3 ≤ vec_capacity out.old }
     ensures items { out.new.items ≡ out.old.items ++ step_bytes step }
     ensures len { vec_len out.new ≡ vec_len out.old + 3 }
