@@ -1,4 +1,4 @@
-use Rattle.std.proofs.Common.{ap, ◌∙◌}
+use Rattle.std.proofs.Common.{◌∙◌}
 use Rattle.afr_image.proofs.LogLemmas.{told_short, told_step_is}
 use Rattle.afr_image.proofs.recorded.kept_step.Goals as goal
 
