@@ -1,5 +1,5 @@
 -- The bytes of a volume's image, and that they are read again.
-use Rattle.std.proofs.Common.{◌≡◌, ◌<◌, ◌≤◌, ◌⊎◌, ◌^◌, ◌||◌, ◌∙◌, ℕ, Bool, false, List, Option, Some, None, drop, length, map, nat_lt, reverse, ap, inl, inr, refl, sym, arith}
+use Rattle.std.proofs.Common.{◌≡◌, ◌≤◌, ◌⊎◌, ◌||◌, ◌∙◌, ℕ, Bool, false, List, Option, Some, None, drop, length, map, nat_lt, reverse, ap, inl, inr, refl, arith}
 use Rattle.std.proofs.lemmas.Bool.{le-ltb}
 use Rattle.std.proofs.lemmas.List.{length-drop, length-map, length-reverse, length-take-le}
 use Rattle.afr_image.specs.Frame.{bytes_with, text_in, text_len}

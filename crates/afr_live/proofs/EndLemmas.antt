@@ -1,10 +1,10 @@
 -- What a turn and an event add to the works that have ended.
-use Rattle.std.proofs.Common.{◌≡◌, ℕ, ◌≤◌, ◌<◌, ◌+◌, ◌==◌, ◌^◌, Bool, true, false, None, Some, List, [], ◌∷◌, length, reverse, refl, sym, ap, arith, eq-eqb, slice_get, ◌∙◌}
+use Rattle.std.proofs.Common.{◌≡◌, ℕ, ◌≤◌, ◌<◌, ◌==◌, ◌^◌, Bool, true, false, None, Some, List, [], ◌∷◌, length, reverse, refl, sym, ap, arith, eq-eqb, slice_get, ◌∙◌}
 use Rattle.afr_base.specs.declared.ids.ActorId.{ActorId}
 use Rattle.afr_lines.specs.Log.{from_oldest}
 use Rattle.afr_lines.specs.LogLemmas.{from_oldest-reverse}
 use Rattle.afr_lines.specs.Work.{is_end}
-use Rattle.afr_lines.specs.declared.line.Line.TheVariants.{Ask, End}
+use Rattle.afr_lines.specs.declared.line.Line.TheVariants.{Ask}
 use Rattle.afr_lines.specs.declared.line.Line.{Line}
 use Rattle.afr_log.specs.Log.{unasked_line}
 use Rattle.afr_volume.proofs.TaskDone.{done_by_plan}
