@@ -1,5 +1,5 @@
 -- The bytes of a volume's image, and that they are read again.
-use Rattle.std.proofs.Common.{◌≡◌, ◌<◌, ◌≤◌, ◌⊎◌, ◌^◌, ◌||◌, ◌∙◌, ℕ, Bool, false, List, Option, Some, None, drop, length, map, nat_lt, reverse, ap, inl, inr, refl, sym, arith}
+use Rattle.std.proofs.Common.{◌≡◌, ◌≤◌, ◌⊎◌, ◌||◌, ◌∙◌, ℕ, Bool, false, List, Option, Some, None, drop, length, map, nat_lt, reverse, ap, inl, inr, refl, arith}
 use Rattle.std.proofs.lemmas.Bool.{le-ltb}
 use Rattle.std.proofs.lemmas.List.{length-drop, length-map, length-reverse, length-take-le}
 use Rattle.afr_image.specs.Frame.{bytes_with, text_in, text_len}
@@ -17,13 +17,6 @@ use Rattle.afr_order.proofs.Replays.LineLemmas.{recorded}
 use Rattle.afr_volume.specs.Right.{IsRight}
 use Rattle.afr_cli.specs.Live.{IsRecorded, image_text}
 use Rattle.afr_cli.specs.Statuses.{IsSpelled}
-
--- a volume has at most as many steps as its plan has turns
-pub few_steps : (log items : List Line) (seen steps : List Step) (turns : ℕ) → seen ≡ steps → steps ≡ map step_of items → reverse items ≡ log → length log ≤ turns → turns ≤ 4000000 → length seen < 2 ^ 32
-few_steps log items seen steps turns same made is room most =
-    let mapped : length seen ≡ length items = ap length (same ∙ made) ∙ length-map items step_of in
-    let turned : length items ≡ length log = sym (length-reverse items) ∙ ap length is in
-    omega (arith, mapped, turned, room, most)
 
 -- the plan and the steps are those of the image
 pub image_is : (p : Plan) (log : List Line) (q : Plan) (steps : List Step) → q ≡ p → steps ≡ map step_of (reverse log) → bytes_with (plan_text q) steps ≡ image_text p log

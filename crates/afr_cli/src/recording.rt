@@ -13,7 +13,7 @@ ghost use Rattle.afr_cli.specs.Statuses.{AreDone, IsFull, IsOver, IsWorkLeft};
 use crate::running::{finish, rounds_report};
 use crate::status::Status;
 use afr_base::NoMemory;
-use afr_image::{print_run, steps_of};
+use afr_image::print_run;
 use afr_report::report_text;
 use afr_text::Sink;
 use afr_volume::Volume;
@@ -63,14 +63,12 @@ fn crawl_report(alloc: Global, volume: &Volume) -> Result<String, NoMemory>
     report_text(alloc, volume)
 }
 
-/// The bytes of the image of the volume as it stands. The plan isn't copied.
+/// The bytes of the image of the volume as it stands.
 fn image_text(alloc: Global, volume: &Volume) -> Result<Vec<u8>, NoMemory>
     requires printed { length (plan_text volume.now.plan) < 2 ^ 32 }
     requires plain { volume.now.crawl ≡ false }
     ensures ok { IfOk result (λ text. text.items ≡ image_text volume.now.plan volume.now.log) }
 {
     volume.every_line();
-    let steps = steps_of(alloc, volume.lines())?;
-    let text = print_run(alloc, volume.plan(), steps.as_slice())?;
-    Ok(text)
+    print_run(alloc, volume.plan(), volume.lines())
 }

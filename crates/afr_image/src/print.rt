@@ -1,14 +1,17 @@
 //! The bytes of an image.
-ghost use Rattle.std.specs.Prelude.{◌≡◌, ◌++◌, ◌<◌, ◌^◌, IfOk, OnOk, length};
+ghost use Rattle.std.specs.Prelude.{◌≡◌, ◌++◌, ◌<◌, ◌^◌, IfOk, OnOk, length, map};
 ghost use Rattle.afr_image.specs.Images.{HasShortNumbers, image_bytes};
 ghost use Rattle.afr_image.specs.Frame.{bytes_with, magic, number_bytes};
+ghost use Rattle.afr_image.specs.Logs.{HasShortActors};
+ghost use Rattle.afr_image.specs.Steps.{step_of};
 ghost use Rattle.afr_plan_print.specs.PrintedPlan.{plan_text};
 
 use crate::frame::MAGIC;
 use crate::image::Image;
-use crate::step::Step;
+use crate::recorded::push_lines;
 use crate::steps::push_steps;
 use afr_base::NoMemory;
+use afr_log::Log;
 use afr_plan::Plan;
 use afr_plan_print::print_plan;
 use byteorder::{BigEndian, ByteOrder};
@@ -19,21 +22,33 @@ pub fn print_image(alloc: Global, image: &Image) -> Result<Vec<u8>, NoMemory>
     requires { HasShortNumbers image.now }
     ensures ok { IfOk result (λ bytes. bytes.items ≡ image_bytes image.now) }
 {
-    print_run(alloc, &image.plan, image.steps.as_slice())
+    let mut out = print_head(alloc, &image.plan, image.steps.len() as u32)?;
+    push_steps(&mut out, image.steps.as_slice())?;
+    Ok(out)
 }
 
-/// The bytes of the image of a plan and steps, neither of which is copied.
-pub fn print_run(alloc: Global, plan: &Plan, steps: &[Step]) -> Result<Vec<u8>, NoMemory>
+/// The bytes of the image of a plan and a log. No image is made of them.
+pub fn print_run(alloc: Global, plan: &Plan, log: &Log) -> Result<Vec<u8>, NoMemory>
     requires text { length (plan_text plan.now) < 2 ^ 32 }
-    requires steps { length steps.now < 2 ^ 32 }
-    ensures ok { IfOk result (λ bytes. bytes.items ≡ bytes_with (plan_text plan.now) steps.now) }
+    requires lines { length log.now.items < 2 ^ 32 }
+    requires short { HasShortActors log.now.items }
+    ensures ok { IfOk result (λ bytes. bytes.items ≡ bytes_with (plan_text plan.now) (map step_of log.now.items)) }
+{
+    let mut out = print_head(alloc, plan, log.len() as u32)?;
+    push_lines(&mut out, log)?;
+    Ok(out)
+}
+
+/// The bytes before so many steps.
+fn print_head(alloc: Global, plan: &Plan, count: u32) -> Result<Vec<u8>, NoMemory>
+    requires { length (plan_text plan.now) < 2 ^ 32 }
+    ensures ok { IfOk result (λ bytes. bytes.items ≡ magic ++ (number_bytes (length (plan_text plan.now)) ++ (plan_text plan.now ++ number_bytes count))) }
 {
     let text = print_plan(alloc, plan)?;
     let mut out = Vec::new(alloc);
     push_magic(&mut out)?;
     push_text(&mut out, text.as_bytes())?;
-    push_number(&mut out, steps.len() as u32)?;
-    push_steps(&mut out, steps)?;
+    push_number(&mut out, count)?;
     Ok(out)
 }
 

@@ -1,9 +1,11 @@
 //! A step: what an image keeps of a line.
 ghost use Rattle.std.specs.Prelude.{◌≡◌, ◌<◌, ◌≤◌, ◌^◌};
 ghost use Rattle.afr_image.specs.Steps.{asked_step, heal_number, is_asked_step, is_event_step, is_own_code, is_own_step, is_step, is_within, own_step, reply_number, step_of, told_code};
+ghost use Rattle.afr_log.specs.Log.{told_line};
 
 use afr_base::{ActorId, BrickId, MOST_BRICKS};
 use afr_lines::{HealReply, Line, Reply, Told};
+use afr_log::ToldLine;
 
 /// The brick of a step that asks none.
 const NO_BRICK: u8 = 255;
@@ -62,6 +64,20 @@ pub fn step_of(line: &Line) -> Step
             brick: NO_BRICK,
             code: EVENT,
         },
+    }
+}
+
+/// The step of a line that is told as no request.
+pub(crate) fn told_step(told: ToldLine<'_>) -> Step
+    requires { (step_of (told_line told)).who < 2 ^ 8 }
+    ensures { result ≡ step_of (told_line told.entry) }
+{
+    match told {
+        ToldLine::Kept(line) => step_of(line),
+        ToldLine::HealBegun { actor, .. } => own_step(actor, HEAL_BEGIN),
+        ToldLine::HealEnded { actor, end, .. } => {
+            own_step(actor, HEAL_END + heal_number(&end.reply()))
+        }
     }
 }
 

@@ -1,5 +1,5 @@
 //! The steps of an image, as bytes and back.
-ghost use Rattle.std.specs.Prelude.{◌≡◌, ◌+◌, ◌*◌, ◌<◌, ◌≤◌, ◌++◌, ◌∷◌, ◌^◌, [], Err, None, Some, IfOk, OnOk, length, slice_index};
+ghost use Rattle.std.specs.Prelude.{◌≡◌, ◌+◌, ◌*◌, ◌<◌, ◌≤◌, ◌++◌, ◌∷◌, ◌^◌, [], Err, None, Some, IfOk, OnOk, length, slice_index, vec_capacity, vec_len};
 ghost use Rattle.afr_image.specs.Frame.{step_fault};
 ghost use Rattle.afr_image.specs.Steps.{first_bad, step_bytes, steps_bytes, steps_in};
 ghost use Rattle.afr_image.specs.declared.image.ImageFault.{ImageFault};
@@ -63,19 +63,26 @@ fn step_in(bytes: &[u8], at: usize) -> Step
     }
 }
 
-/// Adds the bytes of all steps.
+/// Adds the bytes of all steps. Room for them is made first.
 pub(crate) fn push_steps(out: &mut Vec<u8>, steps: &[Step]) -> Result<(), NoMemory>
+    requires { length steps.now < 2 ^ 32 }
     ensures ok { OnOk result (out.new.items ≡ out.old.items ++ steps_bytes steps.now) }
 {
+    out.try_reserve(STEP * steps.len())?;
     for step in steps {
-        push_step(out, *step)?;
+        push_step(out, *step);
     }
     Ok(())
 }
 
-fn push_step(out: &mut Vec<u8>, step: Step) -> Result<(), NoMemory>
-    ensures ok { OnOk result (out.new.items ≡ out.old.items ++ step_bytes step) }
+/// Adds the bytes of a step, for which there is room.
+pub(crate) fn push_step(out: &mut Vec<u8>, step: Step)
+    requires { vec_len out.old + 3 ≤ vec_capacity out.old }
+    ensures items { out.new.items ≡ out.old.items ++ step_bytes step }
+    ensures len { vec_len out.new ≡ vec_len out.old + 3 }
+    ensures capacity { vec_capacity out.new ≡ vec_capacity out.old }
 {
-    out.extend_from_slice(&[step.who, step.brick, step.code])?;
-    Ok(())
+    out.push_reserved(step.who);
+    out.push_reserved(step.brick);
+    out.push_reserved(step.code);
 }

@@ -1,9 +1,12 @@
 -- What a turn and an event add to the works that have ended.
-use Rattle.std.proofs.Common.{◌≡◌, ◌≤◌, ◌<◌, ◌+◌, ◌^◌, Bool, true, false, None, Some, List, [], ◌∷◌, length, refl, sym, ap, arith, ◌∙◌}
+use Rattle.std.proofs.Common.{◌≡◌, ℕ, ◌≤◌, ◌<◌, ◌==◌, ◌^◌, Bool, true, false, None, Some, List, [], ◌∷◌, length, reverse, refl, sym, ap, arith, eq-eqb, slice_get, ◌∙◌}
 use Rattle.afr_base.specs.declared.ids.ActorId.{ActorId}
+use Rattle.afr_lines.specs.Log.{from_oldest}
+use Rattle.afr_lines.specs.LogLemmas.{from_oldest-reverse}
 use Rattle.afr_lines.specs.Work.{is_end}
-use Rattle.afr_lines.specs.declared.line.Line.TheVariants.{End}
+use Rattle.afr_lines.specs.declared.line.Line.TheVariants.{Ask}
 use Rattle.afr_lines.specs.declared.line.Line.{Line}
+use Rattle.afr_log.specs.Log.{unasked_line}
 use Rattle.afr_volume.proofs.TaskDone.{done_by_plan}
 use Rattle.afr_volume.specs.Going.{Goes, IsHappening, Still, Later}
 use Rattle.afr_volume.specs.State.{State}
@@ -22,6 +25,25 @@ pub ends_few : (log : List Line) → works_ended log ≤ length log
 ends_few [] = omega arith
 ends_few (line ∷ older) = few_at line older (is_end line) refl (ends_few older)
 
+-- ---- whether the newest line ends a work
+-- it stands at the last position
+pub newest_line : (items older : List Line) (line : Line) (at : ℕ) → reverse items ≡ line ∷ older → at ≡ length older → slice_get items at ≡ Some line
+newest_line items older line at e last =
+    let here : (at == length older) ≡ true = eq-eqb at (length older) last in
+    let there : from_oldest at (line ∷ older) ≡ Some line = rw here refl in
+    sym (from_oldest-reverse items at) ∙ ap (from_oldest at) e ∙ there
+
+-- a line that is told as no request is the one that stands there
+pub told_ends : (line told : Line) → Some told ≡ unasked_line line → is_end told ≡ is_end line
+told_ends (Ask actor brick request said took) told e = absurd (cc e)
+told_ends line told e = let same : told ≡ line = cc e in ap is_end same
+
+-- and a request ends nothing
+pub untold_ends : (line : Line) → None ≡ unasked_line line → false ≡ is_end line
+untold_ends (Ask actor brick request said took) e = refl
+untold_ends line e = absurd (cc e)
+
+-- ---- how many works have ended
 -- events end nothing
 pub events_ends : (old new : State) → IsHappening old new → works_ended new.log ≡ works_ended old.log
 events_ends old new Still = refl

@@ -1,11 +1,12 @@
 //! What lies under the lock: the volume, and what its threads tell each other.
-ghost use Rattle.std.specs.Prelude.{◌≡◌, ◌⊎◌, ◌<◌, ◌≤◌, ◌+◌, ℕ, true, false, None, OnOk, IfOk, List, [], ◌∷◌, length};
+ghost use Rattle.std.specs.Prelude.{◌≡◌, ◌⊎◌, ◌<◌, ◌≤◌, ◌+◌, ℕ, true, false, None, Some, OnOk, IfOk, List, [], ◌∷◌, length, slice_get};
 ghost use Rattle.afr_law_bound.specs.Ends.Law.{AreEager, is_back};
 ghost use Rattle.afr_live.specs.Ends.{works_ended};
 ghost use Rattle.afr_live.specs.Noted.{AreEager-prop, AreNoted, MayTakeTurn, noted_after};
 ghost use Rattle.afr_live.specs.Turns.{TakesTurn};
 ghost use Rattle.afr_lines.specs.Work.{is_end};
 ghost use Rattle.afr_lines.specs.declared.line.Line.{Line};
+ghost use Rattle.afr_log.specs.Log.{told_line};
 ghost use Rattle.afr_model.specs.Actors.{IsActor, is_done};
 ghost use Rattle.afr_model.specs.Following.{NoneDue};
 ghost use Rattle.afr_volume.specs.Going.{Goes};
@@ -17,6 +18,7 @@ use crate::tally::{EndedWorks, Handed, Run};
 use afr_base::{ActorId, NoMemory};
 use afr_crowd::Held;
 use afr_lines::Line;
+use afr_log::{Log, ToldLine};
 use afr_rule::{Candidate, Rules};
 use afr_volume::{Turned, Volume, come_due};
 use std::sync::ledger::Book;
@@ -243,13 +245,43 @@ fn count<J: Run>(
     }
 }
 
-/// Whether the newest line ends a work.
+/// Whether the newest line ends a work. No line is made for it.
 fn is_last_end(volume: &Volume) -> bool
     requires some { 0 < length volume.now.log }
     ensures { (line : Line) (older : List Line) → volume.now.log ≡ line ∷ older → result ≡ is_end line }
 {
-    let newest = volume.line(volume.len() - 1);
-    match newest.as_line() {
+    let log = volume.lines();
+    ends_at(log, log.len() - 1)
+}
+
+/// Whether the line at a position ends a work.
+fn ends_at(log: &Log, at: usize) -> bool
+    ensures { (line : Line) → slice_get log.now.items at ≡ Some line → result ≡ is_end line }
+{
+    if log.is_asked(at) {
+        return false;
+    }
+    match log.told_at(at) {
+        Some(told) => is_told_end(told),
+        None => false,
+    }
+}
+
+/// Whether what is told ends a work.
+fn is_told_end(told: ToldLine<'_>) -> bool
+    ensures { result ≡ is_end (told_line told.entry) }
+{
+    match told {
+        ToldLine::Kept(line) => is_end(line),
+        ToldLine::HealBegun { .. } => false,
+        ToldLine::HealEnded { .. } => false,
+    }
+}
+
+fn is_end(line: &Line) -> bool
+    ensures { result ≡ is_end line.now }
+{
+    match line {
         Line::End { .. } => true,
         _ => false,
     }

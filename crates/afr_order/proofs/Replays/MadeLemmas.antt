@@ -14,11 +14,12 @@ use Rattle.afr_model.specs.Actors.{IsActor, is_done}
 use Rattle.afr_order.specs.Onward.{Extends}
 use Rattle.afr_plan.specs.declared.plan.Plan.{Plan}
 use Rattle.afr_volume.specs.State.{State}
-use Rattle.afr_volume.proofs.TaskDone.{done_by_plan}
+use Rattle.afr_volume.proofs.TaskDone.{done_by_plan, plain_done}
+use Rattle.afr_volume.specs.Tasks.{is_done_in}
 use Rattle.afr_volume.specs.Turning.{AddsLine, Comes, Turns, due_at, due_of}
 use Rattle.afr_volume.specs.declared.turned.Turned.{Turned}
 use Rattle.afr_volume.specs.declared.turned.Turned.TheVariants.{Ended, Full, Moved, Waits}
-use Rattle.afr_order.specs.Replays.Made.{DiffersAt, Fails, HasSteps, IsBy, IsEventStep, IsMade, Made, MakesStep, NoActor, NoWork, NoneIsDue, OneIsDue, Otherwise, Retraces, Start, Then}
+use Rattle.afr_order.specs.Replays.Made.{DiffersAt, Fails, HasSteps, IsBy, IsEventStep, IsMade, Made, MakesStep, NoActor, NoWork, NoneIsDue, OneIsDue, Otherwise, Retraces, Start, Then, is_ended}
 
 -- ---- what was made has the steps
 pub made_steps : (p : Plan) (steps : List Step) (log : List Line) → Made p steps log → map step_of (reverse log) ≡ steps
@@ -140,5 +141,20 @@ turn_differs step a old new turned who turn busy room h other =
 pub turn_is_due : (step : Step) (s : State) → (IsEventStep step → ⊥) → is_some (due_of s) ≡ true → Fails s.plan step s.log s.log
 turn_is_due step s turn e = OneIsDue turn e
 
-pub turn_done : (step : Step) (a : ActorId) (s : State) → a.0 ≡ step.who → (IsEventStep step → ⊥) → is_done s.plan a.0 s.log ≡ true → Fails s.plan step s.log s.log
-turn_done step a s who turn done = NoWork turn (subst (λ (n : ℕ). is_done s.plan n s.log ≡ true) who done)
+-- a turn that found its actor done has changed nothing
+turn_ended : (a : ActorId) (old new : State) (turned : Turned) → Turns a old turned new → is_ended turned ≡ true → (is_done_in a.0 old ≡ true) × (new ≡ old)
+turn_ended a old new Ended h e = h
+turn_ended a old new turned h e = absurd (cc e)
+
+pub turn_done : (step : Step) (a : ActorId) (old new : State) (turned : Turned) → a.0 ≡ step.who → (IsEventStep step → ⊥) → Turns a old turned new → is_ended turned ≡ true → Fails old.plan step old.log new.log
+turn_done step a old new turned who turn h e =
+    let ended = turn_ended a old new turned h e in
+    let done : is_done old.plan step.who old.log ≡ true = subst (λ (n : ℕ). is_done old.plan n old.log ≡ true) who (done_by_plan a.0 old ended.0) in
+    subst (λ (s : State). Fails old.plan step old.log s.log) (sym ended.1) (NoWork turn done)
+
+-- and any other turn found that its actor had work left
+pub turn_left : (a : ActorId) (old new : State) (turned : Turned) → old.crawl ≡ false → Turns a old turned new → is_ended turned ≡ false → is_done old.plan a.0 old.log ≡ false
+turn_left a old new Moved plain h e = sym (plain_done a.0 old plain) ∙ h.left
+turn_left a old new (Waits owner) plain h e = sym (plain_done a.0 old plain) ∙ h.left
+turn_left a old new Ended plain h e = absurd (cc e)
+turn_left a old new Full plain h e = sym (plain_done a.0 old plain) ∙ h.1

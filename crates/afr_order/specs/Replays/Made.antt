@@ -1,5 +1,5 @@
 -- Which lines were made again of an image's steps, and why one of them couldn't be.
-use Rattle.std.specs.Prelude.{◌≡◌, ℕ, true, false, List, [], ◌∷◌, ◌++◌, None, Some, IsSome, length, map, reverse, slice_get, take}
+use Rattle.std.specs.Prelude.{◌≡◌, ℕ, Bool, true, false, List, [], ◌∷◌, ◌++◌, None, Some, IsSome, length, map, reverse, slice_get, take}
 use Rattle.afr_image.specs.declared.step.Step.{Step}
 use Rattle.afr_image.specs.Steps.{step_of}
 use Rattle.afr_lines.specs.Log.{before}
@@ -8,6 +8,13 @@ use Rattle.afr_lines.specs.declared.line.Line.{Line}
 use Rattle.afr_model.specs.Actors.{IsActor, is_done}
 use Rattle.afr_plan.specs.declared.plan.Plan.{Plan}
 use Rattle.afr_volume.specs.Turning.{due_at}
+use Rattle.afr_volume.specs.declared.turned.Turned.{Turned}
+use Rattle.afr_volume.specs.declared.turned.Turned.TheVariants.{Ended}
+
+-- a turn found that its actor had nothing left to do
+abbrev pub is_ended : Turned → Bool
+is_ended Ended = true
+is_ended turned = false
 
 -- the step is an event's
 abbrev pub IsEventStep : Step → Type 0

@@ -3,7 +3,7 @@ ghost use Rattle.std.specs.Prelude.{◌≡◌, ◌+◌, ◌<◌, ◌≤◌, ◌=
 ghost use Rattle.afr_image.specs.Steps.{step_of};
 ghost use Rattle.afr_lines.specs.declared.line.Line.{Line};
 ghost use Rattle.afr_model.specs.Actors.{IsActor};
-ghost use Rattle.afr_order.specs.Replays.Made.{Fails, IsEventStep, MakesStep};
+ghost use Rattle.afr_order.specs.Replays.Made.{Fails, IsEventStep, MakesStep, is_ended};
 ghost use Rattle.afr_rule.specs.Choosing.{IsRule};
 ghost use Rattle.afr_volume.specs.Right.{KeepsChosen};
 ghost use Rattle.afr_volume.specs.Going.{IsHappening};
@@ -13,7 +13,7 @@ use afr_base::{ActorId, NoMemory};
 use afr_image::{Step, step_at};
 use afr_plan::Plan;
 use afr_rule::{Candidate, Rules};
-use afr_volume::Volume;
+use afr_volume::{Turned, Volume};
 
 /// Makes a line of the step, and answers whether it has the step; where it can't be made, nothing changes.
 pub(crate) fn take_step<F: Fn(&[Candidate]) -> usize, G: Fn(&[Candidate]) -> usize>(
@@ -96,12 +96,21 @@ fn take_turn<F: Fn(&[Candidate]) -> usize, G: Fn(&[Candidate]) -> usize>(
     if !has_actor(volume.plan(), step.who) {
         return Ok(false);
     }
-    let actor = ActorId(step.who as u16);
-    if volume.is_done(actor) {
+    let turned = volume.turn(ActorId(step.who as u16), rules)?;
+    if is_ended(turned) {
         return Ok(false);
     }
-    volume.turn(actor, rules)?;
     Ok(has_step(volume, step))
+}
+
+/// Whether the actor had nothing left to do.
+fn is_ended(turned: Turned) -> bool
+    ensures { result ≡ is_ended turned }
+{
+    match turned {
+        Turned::Ended => true,
+        _ => false,
+    }
 }
 
 /// Whether the plan has the actor.

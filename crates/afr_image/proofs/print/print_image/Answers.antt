@@ -1,4 +1,4 @@
 use Rattle.afr_image.proofs.print.print_image.Goals as goal
 
-pub print_run-requires : goal.print_run-requires
-print_run-requires c = record { text = c.requires.text; steps = rw c.as_slice.ensures c.requires.steps }
+pub push_steps-requires : goal.push_steps-requires
+push_steps-requires c = rw c.as_slice.ensures c.requires.steps

@@ -1,16 +1,9 @@
-use Rattle.std.proofs.Common.{◌≡◌, ap, sym, ◌∙◌}
-use Rattle.afr_log.specs.Log.{shown_line}
-use Rattle.afr_image.specs.Steps.{step_of}
-use Rattle.afr_image.proofs.LogLemmas.{is_there}
+use Rattle.std.proofs.Common.{◌∙◌}
+use Rattle.afr_image.proofs.LogLemmas.{told_short, told_step_is}
 use Rattle.afr_image.proofs.recorded.kept_step.Goals as goal
 
-pub step_of-requires : goal.step_of-requires
-step_of-requires c = rw c.as_line.ensures (c.requires.short.each c.args.at (shown_line c.in-Some.shown) (sym c.in-Some.ensures))
+pub told_step-requires : goal.told_step-requires
+told_step-requires c = told_short c.args.log.now.items c.args.at _ c.requires.short c.in-Some.ensures
 
-pub unreachable-requires : goal.unreachable-requires
-unreachable-requires c = is_there c.args.log.now.items c.args.at c.requires.there c.in-None.ensures
-
-pub returns : goal.returns
-returns c = λ line e.
-    let same : shown_line c.in-Some.shown ≡ line = cc (c.in-Some.ensures ∙ e) in
-    c.step_of.ensures ∙ ap step_of (c.as_line.ensures ∙ same)
+pub returns-in-Some : goal.returns-in-Some
+returns-in-Some c = λ line there. c.told_step.ensures ∙ told_step_is c.args.log.now.items c.args.at _ line c.in-Some.ensures there
