@@ -16,7 +16,7 @@ use crate::job::{LookupJob, Wanted, kind_of, reply_to};
 use afr_base::{BrickId, Shape, What};
 use afr_choice::{Looked, Verdict, judge};
 use afr_client_walk::{Looks, Walk, WalkStep, pick_if, reader_of, stop_reply};
-use afr_lines::{Answer, Good, KeptReply, Reply, Request, told_of};
+use afr_lines::{Answer, Good, KeptReply, Reply, Request};
 use afr_object::{Chunk, Entry};
 use afr_rule::{Candidate, ReadRule, len_at};
 use std::alloc::Global;
@@ -113,15 +113,15 @@ pub(crate) fn stage_heard<G: Fn(&[Candidate]) -> usize>(
             picked
         }
         LookupStage::Looking(looks) => {
-            look_noted(walk, looks, brick, request, answer, at);
-            looks.hear(walk.shape.n, &told_of(answer));
+            look_noted(walk, looks, answer, at);
+            looks.hear(walk.shape.n, answer);
             if !looks.is_over(walk.shape.n) {
                 return None;
             }
             look_over(alloc, job, walk, stage, rule)
         }
         LookupStage::Reading(reader, content) => {
-            read_noted(walk, *reader, *content, brick, request, answer, at);
+            read_noted(walk, *reader, *content, answer, at);
             end_read(mem::replace(answer, Answer::Done), stage);
             None
         }
@@ -181,21 +181,13 @@ fn has_ended(walk: &Walk) -> bool
     }
 }
 
-fn look_noted(
-    walk: &mut Walk,
-    looks: &Looks,
-    brick: BrickId,
-    request: &Request,
-    answer: &Answer,
-    at: u32,
-)
-    requires sound { IsLookup walk.old (LookupStage.Looking looks.now) }
-    requires asked { next_at (LookupStage.Looking looks.now) walk.old ≡ Next.Ask brick request.now }
+fn look_noted(walk: &mut Walk, looks: &Looks, answer: &Answer, at: u32)
+    requires { IsLookup walk.old (LookupStage.Looking looks.now) }
     ensures walk { walk.new ≡ noted (asked_at (LookupStage.Looking looks.now) walk.old) (told_by answer.now) at walk.old }
     ensures kept { IsLookup walk.new (LookupStage.Looking looks.now) }
 {
-    let _ = looks;
-    walk.note(brick, request, &told_of(answer), at);
+    let _ = (looks, answer, at);
+    walk.note();
 }
 
 /// The verdict, where all were asked, and what the rule has picked.
@@ -223,22 +215,13 @@ fn looked_at<G: Fn(&[Candidate]) -> usize>(
     )
 }
 
-fn read_noted(
-    walk: &mut Walk,
-    reader: BrickId,
-    content: Wanted,
-    brick: BrickId,
-    request: &Request,
-    answer: &Answer,
-    at: u32,
-)
-    requires sound { IsLookup walk.old (LookupStage.Reading reader content) }
-    requires asked { next_at (LookupStage.Reading reader content) walk.old ≡ Next.Ask brick request.now }
+fn read_noted(walk: &mut Walk, reader: BrickId, content: Wanted, answer: &Answer, at: u32)
+    requires { IsLookup walk.old (LookupStage.Reading reader content) }
     ensures walk { walk.new ≡ noted (asked_at (LookupStage.Reading reader content) walk.old) (told_by answer.now) at walk.old }
     ensures kept { (said : Reply) → IsLookup walk.new (LookupStage.Ending said) }
 {
-    let _ = (reader, content);
-    walk.note(brick, request, &told_of(answer), at);
+    let _ = (reader, content, answer, at);
+    walk.note();
 }
 
 fn judged(

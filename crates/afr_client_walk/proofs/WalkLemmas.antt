@@ -154,10 +154,6 @@ asked_small w b r k walks e = subst (λ (x : BrickId). x.0 < 5) (asked_brick (ne
     few : w.shape.n ≤ 5
     few = k.few
 
--- a brick and its request that are those of a pair are the pair
-pub asked_whole : (brick : BrickId) (request : Request) (asked : BrickId × Request) → asked.0 ≡ brick → asked.1 ≡ request → (brick, request) ≡ asked
-asked_whole brick request asked eb er = rw (← eb, ← er) refl
-
 pub is_walked_at : (chosen : BrickId) (step : WalkStep) (heard : Answer) (w : Walk) → IsWalk w → IsStep w.shape.n (length w.path) w.read step → IsAmong (choices_at step heard w) chosen
     → IsWalk (walked_at chosen step heard w)
 is_walked_at chosen (Looking s) heard w k i among = record {

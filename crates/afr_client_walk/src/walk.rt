@@ -1,13 +1,15 @@
 //! Walking a path: each name is read from a good copy of the directory that the names before it lead to, which the read rule
 //! picks once all copies were looked at.
-ghost use Rattle.std.specs.Prelude.{◌≡◌, ◌<◌, ◌≤◌, ◌+◌, IfOk, None, Some, length, false, true};
+ghost use Rattle.std.specs.Prelude.{◌≡◌, ℕ, ◌<◌, ◌≤◌, ◌+◌, IfOk, None, Some, length, false, true};
 ghost use Rattle.afr_base.specs.Bricks.{is_nothing};
-ghost use Rattle.afr_discipline.specs.Notes.{noted_ask};
+ghost use Rattle.afr_base.specs.declared.ids.BrickId.{BrickId};
+ghost use Rattle.afr_lines.specs.declared.answer.Told.{Told};
 ghost use Rattle.afr_lines.specs.declared.line.Next.{Next};
+ghost use Rattle.afr_lines.specs.declared.request.Request.{Request};
 ghost use Rattle.afr_object.specs.Tables.{root_entry};
 ghost use Rattle.afr_rule.specs.Choosing.{IsRule};
 ghost use Rattle.afr_client_walk.specs.Choosing.{RuleAnswers, choices, choices_after, reader_of};
-ghost use Rattle.afr_discipline.specs.Free.{AllowsAsk, IsFree, is_free};
+ghost use Rattle.afr_discipline.specs.Free.{AllowsAsk, is_free};
 ghost use Rattle.afr_client_walk.specs.Looks.{IsLooks, heard_look, left_to_look};
 ghost use Rattle.afr_client_walk.specs.Walk.{IsStep, IsWalk, after_looks, choices_at, choices_of, is_walking, named, next_in, noted, step_at, verdict_step, walk_from, walked, walked_at};
 
@@ -16,8 +18,8 @@ use crate::looks::Looks;
 use crate::stop::Stop;
 use afr_base::{BrickId, Gfid, Kind, NameId, NoMemory, Shape, What};
 use afr_choice::{Verdict, judge};
-use afr_discipline::{Move, Register, fresh, note, renew};
-use afr_lines::{Answer, Request, Told, told_of};
+use afr_discipline::{Register, fresh, note_free, renew};
+use afr_lines::{Answer, Request};
 use afr_object::{Entry, List, View};
 use afr_rule::{Candidate, ReadRule};
 use std::alloc::Global;
@@ -126,20 +128,18 @@ impl Walk {
         ensures value { self.new ≡ walked (reader_of result) answer.now at self.old }
         ensures kept { IsWalk self.new }
     {
-        let told = told_of(answer);
-        self.note(brick, request, &told, at);
+        let _ = (brick, request, at);
+        self.note();
         self.go_on(answer, rule)
     }
 
-    /// A look or a read of the same work was told this, at this position.
-    pub fn note(&mut self, brick: BrickId, request: &Request, told: &Told, at: u32)
-        requires walk { IsWalk self.old }
-        requires small { brick.0 < 5 }
-        requires free { is_free request.now ≡ true }
-        ensures value { self.new ≡ noted (brick, request.now) told.now at self.old }
+    /// A look or a read of the same work was answered.
+    pub fn note(&mut self)
+        requires { IsWalk self.old }
+        ensures value { (asked : BrickId × Request) (told : Told) (at : ℕ) → is_free asked.1 ≡ true → self.new ≡ noted asked told at self.old }
         ensures kept { IsWalk self.new }
     {
-        note_free(self.shape, &mut self.register, brick, request, told, at);
+        note_free(&mut self.register);
     }
 
     fn ask(&self, request: &mut Request) -> Option<BrickId>
@@ -179,7 +179,7 @@ impl Walk {
     {
         match &mut self.step {
             WalkStep::Looking(looks) => {
-                looks.hear(self.shape.n, &told_of(answer));
+                looks.hear(self.shape.n, answer);
                 if !looks.is_over(self.shape.n) {
                     return None;
                 }
@@ -231,24 +231,6 @@ pub fn names_of(alloc: Global, path: &[NameId]) -> Result<List<NameId>, NoMemory
         names.push(*name)?;
     }
     Ok(names)
-}
-
-fn note_free(
-    shape: Shape,
-    register: &mut Register,
-    brick: BrickId,
-    request: &Request,
-    told: &Told,
-    at: u32,
-)
-    requires free { IsFree shape register.old }
-    requires few { shape.n ≤ 5 }
-    requires small { brick.0 < 5 }
-    requires asks { is_free request.now ≡ true }
-    ensures value { register.new ≡ noted_ask register.old at brick.0 request.now told.now }
-    ensures kept { IsFree shape register.new }
-{
-    note(register, &Move::Ask(brick, request), told, at);
 }
 
 fn step_from(names: usize, read: usize, object: Entry) -> WalkStep

@@ -33,7 +33,7 @@ pub use heals::len_at;
 pub use laws::{each_move_is_decided, each_note_stands, has_five};
 pub use moves::may;
 pub use note_steps::asked_at;
-pub use notes::{note, note_allowed};
+pub use notes::{note, note_allowed, note_free};
 pub use of_heals::{begun, healed, is_heal, present_part, present_step};
 pub use register::{HealPart, Move, Register, Step, fresh, renew};
 pub use views::suffices;
