@@ -2,6 +2,7 @@
 use Rattle.std.proofs.Common.{◌≡◌, ℕ, ◌&&◌, ◌||◌, not, Bool, true, false, if◌then◌else◌, [], refl, sym, ap, subst, ◌∙◌, Some}
 use Rattle.afr_base.specs.Bricks.{added, added_if}
 use Rattle.afr_base.specs.declared.ids.Kind.{Kind}
+use Rattle.afr_choice.specs.Looks.{no_looks}
 use Rattle.afr_lines.specs.declared.lock.Domain.TheVariants.{Work}
 use Rattle.afr_lines.specs.declared.answer.Told.{Told}
 use Rattle.afr_lines.specs.declared.request.Area.{Area}
@@ -14,7 +15,8 @@ use Rattle.afr_model_moves.specs.Register.{Exact}
 use Rattle.afr_model_moves.specs.Rules.{is_area}
 use Rattle.afr_discipline.specs.declared.register.Register.{Register}
 use Rattle.afr_discipline.specs.declared.register.Step.{Step}
-use Rattle.afr_discipline.specs.Notes.{anew, broken_by, dropped, is_working, joined, noted_ask, noted_inside, noted_law, noted_outside, noted_steps, second_in, still_possible, stopped, with_held}
+use Rattle.afr_discipline.specs.declared.register.Step.TheVariants.{Open}
+use Rattle.afr_discipline.specs.Notes.{anew, broken_by, dropped, is_working, joined, noted_ask, noted_inside, noted_law, noted_outside, noted_steps, second_in, stayed, still_possible, stopped, with_held}
 use Rattle.afr_discipline.specs.Stands.{seen_as, step_of}
 use Rattle.afr_discipline.proofs.InPlace.{noted_in_turn, turn_shape}
 
@@ -54,10 +56,17 @@ busy_locks true false q area b = refl
 busy_locks false true q area b = refl
 busy_locks false false q area b = refl
 
--- a later one
-pub locks_more : (q : Register) (area : Area) (b : ℕ) (told : Told) → is_working q ≡ true
-    → (if is_area q.area area then record q { held = added_if (is_granted told) b q.held } else record q { second = Some area; second_held = added_if (is_granted told) b q.second_held }) ≡ noted_law q b (Lock Work area) told
-locks_more q area b told busy = busy_locks (is_granted told) (is_area q.area area) q area b ∙ ap (λ (works : Bool). locked_where (is_granted told) works q area b) (sym busy)
+-- a later one: its steps, and its locks
+pub works_more : (p q : Register) (area : Area) (b : ℕ) (told : Told) → q ≡ stayed p → is_working p ≡ true → q ≡ noted_outside p b (Lock Work area) told
+works_more p q area b told e busy = e ∙ ap (λ (works : Bool). if works then stayed p else record p { step = Open; asked = []; unlocked = false; looked = no_looks }) (sym busy)
+
+abbrev locks_by : Bool → Register → Area → ℕ → Register
+locks_by granted q area b = if is_area q.area area then record q { held = added_if granted b q.held } else record q { second = Some area; second_held = added_if granted b q.second_held }
+
+pub locks_more : (p q l : Register) (area : Area) (b : ℕ) (told : Told) (granted : Bool) → q ≡ stayed p → is_working p ≡ true → granted ≡ is_granted told → l ≡ locks_by granted q area b → l ≡ noted_law q b (Lock Work area) told
+locks_more p q l area b told granted e busy grants is =
+    is ∙ ap (λ (granted : Bool). locks_by granted q area b) grants ∙ busy_locks (is_granted told) (is_area q.area area) q area b
+    ∙ ap (λ (works : Bool). locked_where (is_granted told) works q area b) (sym (ap is_working e ∙ busy))
 
 -- ---- a request
 module _ (p q l d : Register) (t b : ℕ) (request : Request) (told : Told) (gone : Bool) (outside : p.inside ≡ false) (steps : q ≡ noted_outside p b request told) (law : l ≡ noted_law q b request told) (is : gone ≡ is_gone told) (drop : d ≡ dropped gone b l) where

@@ -139,7 +139,13 @@ fn noted_lock(register: &mut Register, b: BrickId, domain: Domain, area: Area, t
 }
 
 /// Only an unlock that was carried out gives a lock back.
-pub(crate) fn noted_unlock(register: &mut Register, b: BrickId, domain: Domain, area: Area, told: &Told)
+pub(crate) fn noted_unlock(
+    register: &mut Register,
+    b: BrickId,
+    domain: Domain,
+    area: Area,
+    told: &Told,
+)
     requires { b.0 < 5 }
     ensures { register.new ≡ noted_law register.old b.0 (Request.Unlock domain area) told.now }
 {

@@ -99,7 +99,13 @@ fn noted_lock(register: &mut Register, b: BrickId, domain: Domain, area: Area, t
     }
 }
 
-pub(crate) fn noted_unlock(register: &mut Register, b: BrickId, domain: Domain, area: Area, told: &Told)
+pub(crate) fn noted_unlock(
+    register: &mut Register,
+    b: BrickId,
+    domain: Domain,
+    area: Area,
+    told: &Told,
+)
     ensures { register.new ≡ noted_outside register.old b.0 (Request.Unlock domain area) told.now }
 {
     stayed(register);

@@ -21,7 +21,13 @@ use afr_object::View;
 
 /// A request and its answer. The steps come first: they read the locks as they were before, and the locks never read
 /// the steps.
-pub(crate) fn noted_ask(register: &mut Register, at: u32, b: BrickId, request: &Request, told: &Told)
+pub(crate) fn noted_ask(
+    register: &mut Register,
+    at: u32,
+    b: BrickId,
+    request: &Request,
+    told: &Told,
+)
     requires few { register.old.shape.n ≤ 5 }
     requires small { b.0 < 5 }
     requires room { register.old.upto + span < 2 ^ 32 }

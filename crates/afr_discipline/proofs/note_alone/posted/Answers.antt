@@ -1,8 +1,8 @@
-use Rattle.std.proofs.Common.{◌∙◌, ap, Bool, List, ℕ}
+use Rattle.std.proofs.Common.{refl, ap, ◌∙◌, Bool, List, ℕ}
 use Rattle.afr_base.specs.Bricks.{added_if}
 use Rattle.afr_lines.specs.declared.request.Request.TheVariants.{Post}
 use Rattle.afr_discipline.proofs.Alone.{noted_calm}
-use Rattle.afr_discipline.proofs.note_outside.posted.Goals as goal
+use Rattle.afr_discipline.proofs.note_alone.posted.Goals as goal
 
 pub returns : goal.returns
 returns c =

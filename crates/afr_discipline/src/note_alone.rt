@@ -8,14 +8,13 @@ ghost use Rattle.afr_discipline.specs.Notes.{is_working, noted_ask};
 
 use crate::answers::{is_done, is_gone, is_granted};
 use crate::areas::is_the_area;
-use crate::note_law;
 use crate::note_law::{anew, dropped};
-use crate::note_steps;
 use crate::note_steps::{entered, stayed};
 use crate::note_stops::stopped;
 use crate::notes::noted_ask;
 use crate::outside::is_busy;
 use crate::register::{Register, Step, forget};
+use crate::{note_law, note_steps};
 use afr_base::{BrickId, BrickSet, Gfid, Kind};
 use afr_lines::{Area, Domain, Request, Told};
 
