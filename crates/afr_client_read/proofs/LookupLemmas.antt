@@ -94,6 +94,13 @@ is_object_looked shape step chosen job object s within among = go (is_nothing (l
     go true k h = is_judged shape.n step chosen job object verdict s.looked (low shape s.looked (kind_of job object.what) chosen within h)
     go false k h = record { left = k; reached = within }
 
+-- the verdict, once all were asked
+pub over_judged : (chosen : BrickId) (shape : Shape) (job : LookupJob) (object : Entry) (s : Looks) (v : Verdict) → is_nothing (left_to_look shape.n s) ≡ true → v ≡ verdict_of shape s.looked (kind_of job object.what)
+    → object_judged chosen job object v s.looked ≡ object_looked chosen shape job object s
+over_judged chosen shape job object s v over is =
+    ap (λ (v : Verdict). object_judged chosen job object v s.looked) is
+    ∙ ap (λ (e : Bool). if e then object_judged chosen job object (verdict_of shape s.looked (kind_of job object.what)) s.looked else Looking s) (sym over)
+
 -- ---- what is asked
 pub free_request : (g : Gfid) (of : Wanted) → is_free (request_of g of) ≡ true
 free_request g (content.Bytes at len) = refl
