@@ -1,4 +1,4 @@
-use Rattle.std.proofs.Common.{Bool, if◌then◌else◌, List, ℕ, [], refl, sym, ap, subst, ◌∙◌}
+use Rattle.std.proofs.Common.{Bool, if◌then◌else◌, List, ℕ, [], false, refl, sym, ap, subst, ◌∙◌}
 use Rattle.afr_base.specs.Bricks.{added_if}
 use Rattle.afr_choice.specs.Looks.{no_looks}
 use Rattle.afr_lines.specs.declared.lock.Domain.TheVariants.{Work}
