@@ -207,7 +207,6 @@ fn look_noted(walk: &mut Walk, looks: &Looks, answer: &Answer, at: u32)
     ensures walk { walk.new ≡ noted (asked_at (LookupStage.Looking looks.now) walk.old) (told_by answer.now) at walk.old }
     ensures kept { IsLookup walk.new (LookupStage.Looking looks.now) }
 {
-    let _ = (looks, answer, at);
     walk.note();
 }
 
@@ -235,7 +234,6 @@ fn read_noted(walk: &mut Walk, reader: BrickId, content: Wanted, answer: &Answer
     ensures walk { walk.new ≡ noted (asked_at (LookupStage.Reading reader content) walk.old) (told_by answer.now) at walk.old }
     ensures kept { (said : Reply) → IsLookup walk.new (LookupStage.Ending said) }
 {
-    let _ = (reader, content, answer, at);
     walk.note();
 }
 
@@ -269,13 +267,7 @@ fn split(stage: &mut LookupStage)
 }
 
 /// The copy that was chosen is read; of some reads the looks have told all.
-fn ask_copy(
-    alloc: Global,
-    job: LookupJob,
-    object: Entry,
-    brick: BrickId,
-    stage: &mut LookupStage,
-)
+fn ask_copy(alloc: Global, job: LookupJob, object: Entry, brick: BrickId, stage: &mut LookupStage)
     requires { brick.0 < 5 }
     ensures { (looks : Looks) → stage.old ≡ LookupStage.Looking looks → stage.new ≡ from_copy job object looks.looked brick }
 {

@@ -132,7 +132,6 @@ impl Walk {
         ensures value { self.new ≡ walked (reader_of result) answer.now at self.old }
         ensures kept { IsWalk self.new }
     {
-        let _ = (brick, request, at);
         self.note();
         self.go_on(answer, rule)
     }
