@@ -1,5 +1,5 @@
 -- A read has somebody left to ask, the discipline allows what it asks, and its register notes it.
-use Rattle.std.proofs.Common.{subst, sym, ◌≡◌, ℕ, ◌<◌, ◌≤◌, arith, ◌==◌, Bool, true, false, [], Option, refl, ap, ◌∙◌, if◌then◌else◌}
+use Rattle.std.proofs.Common.{subst, sym, ◌≡◌, ℕ, ◌<◌, ◌==◌, Bool, true, false, [], Option, refl, ap, ◌∙◌, if◌then◌else◌}
 use Rattle.afr_base.specs.Bricks.{is_nothing, IsWithin}
 use Rattle.afr_base.specs.declared.ids.BrickId.{BrickId}
 use Rattle.afr_base.specs.declared.ids.Gfid.{Gfid}
@@ -94,6 +94,13 @@ is_object_looked shape step chosen job object s within among = go (is_nothing (l
     go true k h = is_judged shape.n step chosen job object verdict s.looked (low shape s.looked (kind_of job object.what) chosen within h)
     go false k h = record { left = k; reached = within }
 
+-- the verdict, once all were asked
+pub over_judged : (chosen : BrickId) (shape : Shape) (job : LookupJob) (object : Entry) (s : Looks) (v : Verdict) → is_nothing (left_to_look shape.n s) ≡ true → v ≡ verdict_of shape s.looked (kind_of job object.what)
+    → object_judged chosen job object v s.looked ≡ object_looked chosen shape job object s
+over_judged chosen shape job object s v over is =
+    ap (λ (v : Verdict). object_judged chosen job object v s.looked) is
+    ∙ ap (λ (e : Bool). if e then object_judged chosen job object (verdict_of shape s.looked (kind_of job object.what)) s.looked else Looking s) (sym over)
+
 -- ---- what is asked
 pub free_request : (g : Gfid) (of : Wanted) → is_free (request_of g of) ≡ true
 free_request g (content.Bytes at len) = refl
@@ -124,29 +131,6 @@ asking_at Walking w b request e = (refl, e)
 asking_at (Looking s) w b request e = (refl, e)
 asking_at (Reading c of) w b request e = (refl, e)
 asking_at (Ending said) w b request e = absurd (cc e)
-
-pair : (asked : BrickId × Request) (b : BrickId) (r : Request) → next.Ask asked.0 asked.1 ≡ next.Ask b r → asked ≡ (b, r)
-pair (c, q) b r e = cc e
-
--- who is asked, and for what, is what the next line says
-pub asked_pair : (stage : LookupStage) (w : Walk) (b : BrickId) (r : Request) → is_asking stage ≡ true → next_at stage w ≡ next.Ask b r → asked_at stage w ≡ (b, r)
-asked_pair Walking w b r h e = pair (next_in w) b r e
-asked_pair (Looking s) w b r h e = cc e
-asked_pair (Reading c of) w b r h e = cc e
-asked_pair (Ending said) w b r h e = absurd (cc h)
-
--- what was asked is free, and of a brick of the volume
-pub asked_free : (stage : LookupStage) (w : Walk) (b : BrickId) (r : Request) → IsLookup w stage → is_asking stage ≡ true → next_at stage w ≡ next.Ask b r → (is_free r ≡ true) × (b.0 < 5)
-asked_free stage w b r k h e = subst (λ (asked : BrickId × Request). (is_free asked.1 ≡ true) × (asked.0.0 < 5)) (asked_pair stage w b r h e) (asks.0, omega (arith, below, few))
-  where
-    asks : (is_free (asked_at stage w).1 ≡ true) × ((asked_at stage w).0.0 < w.shape.n)
-    asks = asks_free_at stage w k h
-
-    below : (asked_at stage w).0.0 < w.shape.n
-    below = asks.1
-
-    few : w.shape.n ≤ 5
-    few = k.sound.few
 
 -- ---- an answer
 pub kept : (chosen : BrickId) (stage : LookupStage) (a : Answer) (at : ℕ) (job : LookupJob) (w : Walk) → IsLookup w stage → is_asking stage ≡ true → IsAmong (choices_at stage a job w) chosen
@@ -179,11 +163,6 @@ pub fed_is_answered : {F : Type 0} (calls : Calls F) (choose : F) → FedIsAnswe
 fed_is_answered calls choose of old new k = record { chosen = reader_of k.picked; among = answers_among calls choose (choices_heard of old) k.picked k.answers; value = k.value }
 
 -- ---- what the code makes is what the answer makes
-pub noted_asked : (stage : LookupStage) (w x : Walk) (b : BrickId) (r : Request) (told heard : Told) (at : ℕ) → is_asking stage ≡ true → next_at stage w ≡ next.Ask b r → told ≡ heard → x ≡ noted (b, r) told at w
-    → x ≡ noted (asked_at stage w) heard at w
-noted_asked stage w x b r told heard at h asked et ex =
-    ex ∙ ap (λ (asked : BrickId × Request). noted asked told at w) (sym (asked_pair stage w b r h asked)) ∙ ap (λ (t : Told). noted (asked_at stage w) t at w) et
-
 -- a noted look leaves the read where it stands
 pub look_kept : (w : Walk) (s : Looks) (a : Answer) (at : ℕ) → IsLookup w (Looking s) → IsLookup (noted (asked_at (Looking s) w) (told_by a) at w) (Looking s)
 look_kept w s a at k = record { sound = is_noted (asked_at (Looking s) w) (told_by a) at w k.sound refl; ready = k.ready }

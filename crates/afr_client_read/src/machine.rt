@@ -6,7 +6,7 @@ ghost use Rattle.afr_client_walk.specs.Choosing.{RuleAnswers, reader_of};
 ghost use Rattle.afr_discipline.specs.Free.{Allows, is_ask};
 
 use crate::job::{LookupJob, request_of};
-use crate::stage::{LookupStage, left_by, stage_heard};
+use crate::stage::{LookupStage, leave, stage_heard};
 use afr_base::{BrickId, NameId, NoMemory, Shape};
 use afr_client_walk::{Walk, names_of};
 use afr_discipline::Register;
@@ -47,7 +47,8 @@ impl LookupMachine {
         ensures value { IfOk result (λ machine. machine ≡ lookup_from shape path.now job) }
     {
         let walk = Walk::along(shape, names_of(alloc, path)?);
-        let stage = left_by(job, &walk);
+        let mut stage = LookupStage::Walking;
+        leave(job, &walk, &mut stage);
         Ok(LookupMachine {
             alloc,
             walk,
@@ -71,7 +72,7 @@ impl LookupMachine {
         let names = names_of(self.alloc, path)?;
         self.walk.begin_again(shape, names);
         self.job = job;
-        self.stage = left_by(job, &self.walk);
+        leave(job, &self.walk, &mut self.stage);
         Ok(())
     }
 

@@ -1,6 +1,7 @@
 //! The stages of a read, and what an answer makes of each.
 ghost use Rattle.std.specs.Prelude.{◌≡◌, ◌<◌, ◌≤◌, [], false, not, true};
 ghost use Rattle.afr_base.specs.Bricks.{is_nothing};
+ghost use Rattle.afr_choice.specs.Verdict.{verdict_of};
 ghost use Rattle.afr_client_read.specs.Lookup.{IsLookup, after_walk, asked_at, at_object, choices_at, from_copy, is_asking, next_at, object_judged, object_looked, stage_after, walk_after};
 ghost use Rattle.afr_client_read.specs.Job.{kind_of, reply_to};
 ghost use Rattle.afr_lines.specs.declared.reply.Reply.{Reply};
@@ -8,15 +9,16 @@ ghost use Rattle.afr_lines.specs.Told.{told_by};
 ghost use Rattle.afr_lines.specs.declared.line.Next.{Next};
 ghost use Rattle.afr_rule.specs.Choosing.{IsRule};
 ghost use Rattle.afr_client_walk.specs.Choosing.{RuleAnswers, choices_after, reader_of};
-ghost use Rattle.afr_client_walk.specs.Looks.{left_to_look};
+ghost use Rattle.afr_client_walk.specs.Looks.{left_to_look, no_look};
+ghost use Rattle.afr_client_walk.specs.Stops.{reply_of};
 ghost use Rattle.afr_client_walk.specs.declared.looks.Looks.{Looks};
 ghost use Rattle.afr_client_walk.specs.Walk.{IsWalk, is_walking, noted};
 
 use crate::job::{LookupJob, Wanted, kind_of, reply_to};
-use afr_base::{BrickId, Shape, What};
-use afr_choice::{Looked, Verdict, judge};
-use afr_client_walk::{Looks, Walk, WalkStep, pick_if, reader_of, stop_reply};
-use afr_lines::{Answer, Good, KeptReply, Reply, Request, told_of};
+use afr_base::{BrickId, Kind, Shape, What};
+use afr_choice::{Verdict, judge};
+use afr_client_walk::{Looks, Stop, Walk, WalkStep, pick_if, reader_of, stop_reply};
+use afr_lines::{Answer, Good, KeptReply, Reply, Request};
 use afr_object::{Chunk, Entry};
 use afr_rule::{Candidate, ReadRule, len_at};
 use std::alloc::Global;
@@ -35,49 +37,80 @@ pub enum LookupStage {
 }
 
 /// Where a walk leaves the read.
-pub(crate) fn left_by(job: LookupJob, walk: &Walk) -> LookupStage
+pub(crate) fn leave(job: LookupJob, walk: &Walk, stage: &mut LookupStage)
     requires { IsWalk walk.now }
-    ensures value { result ≡ after_walk job walk.now }
-    ensures kept { IsLookup walk.now result }
+    ensures value { stage.new ≡ after_walk job walk.now }
+    ensures kept { IsLookup walk.now stage.new }
 {
     match &walk.step {
-        WalkStep::Looking(_) | WalkStep::Naming(_) => LookupStage::Walking,
-        WalkStep::Arrived => arrived(job, walk.object.what),
-        WalkStep::Stopped(stop) => LookupStage::Ending(stop_reply(stop)),
+        WalkStep::Looking(_) | WalkStep::Naming(_) => walk_on(stage),
+        WalkStep::Arrived => arrive(job, walk.object.what, stage),
+        WalkStep::Stopped(why) => stop(why, stage),
     }
 }
 
-fn ending(reply: Reply) -> LookupStage
-    ensures { result ≡ LookupStage.Ending reply }
+/// The path is walked. The stage is written in its place, for it is large, and this stands apart, as the next ones do, so that
+/// only what comes to it pays for a frame that holds stages.
+#[inline(never)]
+fn walk_on(stage: &mut LookupStage)
+    ensures { stage.new ≡ LookupStage.Walking }
 {
-    LookupStage::Ending(KeptReply::new(reply))
+    *stage = LookupStage::Walking;
 }
 
-fn arrived(job: LookupJob, what: What) -> LookupStage
-    ensures { result ≡ at_object job what }
+#[inline(never)]
+fn stop(why: &Stop, stage: &mut LookupStage)
+    ensures { stage.new ≡ LookupStage.Ending (reply_of why.now) }
+{
+    *stage = LookupStage::Ending(stop_reply(why));
+}
+
+#[inline(never)]
+fn end(reply: Reply, stage: &mut LookupStage)
+    ensures { stage.new ≡ LookupStage.Ending reply }
+{
+    *stage = LookupStage::Ending(KeptReply::new(reply));
+}
+
+#[inline(never)]
+fn look(stage: &mut LookupStage)
+    ensures { stage.new ≡ LookupStage.Looking no_look }
+{
+    *stage = LookupStage::Looking(Looks::new());
+}
+
+#[inline(never)]
+fn read(brick: BrickId, content: Wanted, stage: &mut LookupStage)
+    ensures { stage.new ≡ LookupStage.Reading brick content }
+{
+    *stage = LookupStage::Reading(brick, content);
+}
+
+fn arrive(job: LookupJob, what: What, stage: &mut LookupStage)
+    ensures { stage.new ≡ at_object job what }
 {
     match job {
-        LookupJob::Read { .. } => of_file(what),
-        LookupJob::Ls => of_dir(what),
-        LookupJob::GetAttr { .. } | LookupJob::Stat => LookupStage::Looking(Looks::new()),
+        LookupJob::Read { .. } => look_at_file(what, stage),
+        LookupJob::Ls => look_at_dir(what, stage),
+        LookupJob::GetAttr { .. } | LookupJob::Stat => look(stage),
     }
 }
 
-fn of_file(what: What) -> LookupStage
-    ensures { result ≡ at_object (LookupJob.Read 0 0) what }
+fn look_at_file(what: What, stage: &mut LookupStage)
+    ensures { stage.new ≡ at_object (LookupJob.Read 0 0) what }
 {
     match what {
-        What::File => LookupStage::Looking(Looks::new()),
-        What::Dir => ending(Reply::IsDir),
+        What::File => look(stage),
+        What::Dir => end(Reply::IsDir, stage),
     }
 }
 
-fn of_dir(what: What) -> LookupStage
-    ensures { result ≡ at_object LookupJob.Ls what }
+fn look_at_dir(what: What, stage: &mut LookupStage)
+    ensures { stage.new ≡ at_object LookupJob.Ls what }
 {
     match what {
-        What::Dir => LookupStage::Looking(Looks::new()),
-        What::File => ending(Reply::NotDir),
+        What::Dir => look(stage),
+        What::File => end(Reply::NotDir, stage),
     }
 }
 
@@ -113,15 +146,15 @@ pub(crate) fn stage_heard<G: Fn(&[Candidate]) -> usize>(
             picked
         }
         LookupStage::Looking(looks) => {
-            look_noted(walk, looks, brick, request, answer, at);
-            looks.hear(walk.shape.n, &told_of(answer));
+            look_noted(walk, looks, answer, at);
+            looks.hear(walk.shape.n, answer);
             if !looks.is_over(walk.shape.n) {
                 return None;
             }
             look_over(alloc, job, walk, stage, rule)
         }
         LookupStage::Reading(reader, content) => {
-            read_noted(walk, *reader, *content, brick, request, answer, at);
+            read_noted(walk, *reader, *content, answer, at);
             end_read(mem::replace(answer, Answer::Done), stage);
             None
         }
@@ -129,19 +162,7 @@ pub(crate) fn stage_heard<G: Fn(&[Candidate]) -> usize>(
     }
 }
 
-/// The stage after the walk. It stands apart, as the next two do, so that only the answers that end a stage pay for a frame
-/// that holds one.
-#[inline(never)]
-fn leave(job: LookupJob, walk: &Walk, stage: &mut LookupStage)
-    requires { IsWalk walk.now }
-    ensures value { stage.new ≡ after_walk job walk.now }
-    ensures kept { IsLookup walk.now stage.new }
-{
-    *stage = left_by(job, walk);
-}
-
 /// The stage after the looks, and what the rule has picked.
-#[inline(never)]
 fn look_over<G: Fn(&[Candidate]) -> usize>(
     alloc: Global,
     job: LookupJob,
@@ -156,19 +177,19 @@ fn look_over<G: Fn(&[Candidate]) -> usize>(
     ensures stage { (looks : Looks) → stage.old ≡ LookupStage.Looking looks → stage.new ≡ object_looked (reader_of result) walk.now.shape job walk.now.object looks }
 {
     if let LookupStage::Looking(looks) = stage {
-        let (after, picked) = looked_at(alloc, walk.shape, job, walk.object, looks, rule);
-        *stage = after;
+        let kind = kind_of(job, walk.object.what);
+        let (verdict, picked) = judged_by(walk.shape, kind, looks, rule);
+        put_judged(alloc, job, walk.object, verdict, reader_of(picked), stage);
         return picked;
     }
     None
 }
 
 /// The stage after the read.
-#[inline(never)]
 fn end_read(answer: Answer, stage: &mut LookupStage)
     ensures { stage.new ≡ LookupStage.Ending (reply_to answer) }
 {
-    *stage = ending(reply_to(answer));
+    end(reply_to(answer), stage);
 }
 
 /// Whether a walk has led to its object, or has stopped.
@@ -181,103 +202,90 @@ fn has_ended(walk: &Walk) -> bool
     }
 }
 
-fn look_noted(
-    walk: &mut Walk,
-    looks: &Looks,
-    brick: BrickId,
-    request: &Request,
-    answer: &Answer,
-    at: u32,
-)
-    requires sound { IsLookup walk.old (LookupStage.Looking looks.now) }
-    requires asked { next_at (LookupStage.Looking looks.now) walk.old ≡ Next.Ask brick request.now }
+fn look_noted(walk: &mut Walk, looks: &Looks, answer: &Answer, at: u32)
+    requires { IsLookup walk.old (LookupStage.Looking looks.now) }
     ensures walk { walk.new ≡ noted (asked_at (LookupStage.Looking looks.now) walk.old) (told_by answer.now) at walk.old }
     ensures kept { IsLookup walk.new (LookupStage.Looking looks.now) }
 {
-    let _ = looks;
-    walk.note(brick, request, &told_of(answer), at);
+    walk.note();
 }
 
 /// The verdict, where all were asked, and what the rule has picked.
-fn looked_at<G: Fn(&[Candidate]) -> usize>(
-    alloc: Global,
+fn judged_by<G: Fn(&[Candidate]) -> usize>(
     shape: Shape,
-    job: LookupJob,
-    object: Entry,
+    kind: Kind,
     looks: &Looks,
     rule: &ReadRule<G>,
-) -> (LookupStage, Option<BrickId>)
+) -> (Verdict, Option<BrickId>)
     requires rule { IsRule G.Fn rule.now }
     requires few { shape.n ≤ 5 }
     requires over { is_nothing (left_to_look shape.n looks.now) ≡ true }
-    ensures picked { RuleAnswers G.Fn rule.now (choices_after shape (kind_of job object.what) looks.now) result.1 }
-    ensures stage { result.0 ≡ object_looked (reader_of result.1) shape job object looks.now }
+    ensures picked { RuleAnswers G.Fn rule.now (choices_after shape kind looks.now) result.1 }
+    ensures verdict { result.0 ≡ verdict_of shape looks.now.looked kind }
+    ensures small { (reader_of result.1).0 < 5 }
 {
-    let kind = kind_of(job, object.what);
     let verdict = judge(&shape, &looks.looked, kind);
     let picked = pick_if(&verdict, &shape, &looks.looked, kind, rule);
-    let chosen = reader_of(picked);
-    (
-        judged(alloc, job, object, verdict, &looks.looked, chosen),
-        picked,
-    )
+    (verdict, picked)
 }
 
-fn read_noted(
-    walk: &mut Walk,
-    reader: BrickId,
-    content: Wanted,
-    brick: BrickId,
-    request: &Request,
-    answer: &Answer,
-    at: u32,
-)
-    requires sound { IsLookup walk.old (LookupStage.Reading reader content) }
-    requires asked { next_at (LookupStage.Reading reader content) walk.old ≡ Next.Ask brick request.now }
+fn read_noted(walk: &mut Walk, reader: BrickId, content: Wanted, answer: &Answer, at: u32)
+    requires { IsLookup walk.old (LookupStage.Reading reader content) }
     ensures walk { walk.new ≡ noted (asked_at (LookupStage.Reading reader content) walk.old) (told_by answer.now) at walk.old }
     ensures kept { (said : Reply) → IsLookup walk.new (LookupStage.Ending said) }
 {
-    let _ = (reader, content);
-    walk.note(brick, request, &told_of(answer), at);
+    walk.note();
 }
 
-fn judged(
+fn put_judged(
     alloc: Global,
     job: LookupJob,
     object: Entry,
     verdict: Verdict,
-    looked: &Looked,
     chosen: BrickId,
-) -> LookupStage
+    stage: &mut LookupStage,
+)
     requires { chosen.0 < 5 }
-    ensures { result ≡ object_judged chosen job object verdict looked.now }
+    ensures { (looks : Looks) → stage.old ≡ LookupStage.Looking looks → stage.new ≡ object_judged chosen job object verdict looks.looked }
 {
     match verdict {
-        Verdict::Short => ending(Reply::NoQuorum),
-        Verdict::Bare => ending(Reply::FewCopies),
-        Verdict::Split => LookupStage::Ending(KeptReply::split(&looked.views)),
-        Verdict::Sources(_) => reading(alloc, job, object, looked, chosen),
+        Verdict::Short => end(Reply::NoQuorum, stage),
+        Verdict::Bare => end(Reply::FewCopies, stage),
+        Verdict::Split => split(stage),
+        Verdict::Sources(_) => ask_copy(alloc, job, object, chosen, stage),
     }
 }
 
-fn reading(
-    alloc: Global,
-    job: LookupJob,
-    object: Entry,
-    looked: &Looked,
-    brick: BrickId,
-) -> LookupStage
+/// Each copy is accused, as the views show.
+#[inline(never)]
+fn split(stage: &mut LookupStage)
+    ensures { (looks : Looks) → stage.old ≡ LookupStage.Looking looks → stage.new ≡ LookupStage.Ending (Reply.SplitBrain looks.looked.views) }
+{
+    if let LookupStage::Looking(looks) = stage {
+        *stage = LookupStage::Ending(KeptReply::split(&looks.looked.views));
+    }
+}
+
+/// The copy that was chosen is read; of some reads the looks have told all.
+fn ask_copy(alloc: Global, job: LookupJob, object: Entry, brick: BrickId, stage: &mut LookupStage)
     requires { brick.0 < 5 }
-    ensures { result ≡ from_copy job object looked.now brick }
+    ensures { (looks : Looks) → stage.old ≡ LookupStage.Looking looks → stage.new ≡ from_copy job object looks.looked brick }
 {
     match job {
-        LookupJob::Read { len: 0, .. } => { ending(Reply::Ok(Good::Bytes(Chunk::new(alloc)))) }
-        LookupJob::Read { at, len } => LookupStage::Reading(brick, Wanted::Bytes { at, len }),
-        LookupJob::GetAttr { key } => LookupStage::Reading(brick, Wanted::Value { key }),
-        LookupJob::Ls => LookupStage::Reading(brick, Wanted::Names),
-        LookupJob::Stat => ending(Reply::Ok(Good::Stat {
-            entry: object,
-            len: len_at(looked, brick),
-        })),
+        LookupJob::Read { len: 0, .. } => end(Reply::Ok(Good::Bytes(Chunk::new(alloc))), stage),
+        LookupJob::Read { at, len } => read(brick, Wanted::Bytes { at, len }, stage),
+        LookupJob::GetAttr { key } => read(brick, Wanted::Value { key }, stage),
+        LookupJob::Ls => read(brick, Wanted::Names, stage),
+        LookupJob::Stat => tell(object, brick, stage),
+    }
+}
+
+fn tell(object: Entry, brick: BrickId, stage: &mut LookupStage)
+    requires { brick.0 < 5 }
+    ensures { (looks : Looks) → stage.old ≡ LookupStage.Looking looks → stage.new ≡ from_copy LookupJob.Stat object looks.looked brick }
+{
+    if let LookupStage::Looking(looks) = stage {
+        let len = len_at(&looks.looked, brick);
+        end(Reply::Ok(Good::Stat { entry: object, len }), stage);
     }
 }

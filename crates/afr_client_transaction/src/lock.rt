@@ -32,15 +32,12 @@ pub(crate) fn lock_request(change: &Change) -> Request
 }
 
 /// A brick has answered its lock.
-pub(crate) fn lock_told(b: BrickId, told: &Told, asked: &LocksAndLooks) -> LocksAndLooks
+pub(crate) fn lock_told(b: BrickId, told: &Told, asked: &mut LocksAndLooks)
     requires { b.0 < 5 }
-    ensures { result ≡ asked_by Stage.Locking b.0 told.now asked.now }
+    ensures { asked.new ≡ asked_by Stage.Locking b.0 told.now asked.old }
 {
-    LocksAndLooks {
-        lock_asked: asked.lock_asked.with_if(!is_held(told), b),
-        locked_on: asked.locked_on.with_if(is_granted(told), b),
-        looked_at: asked.looked_at,
-    }
+    asked.lock_asked = asked.lock_asked.with_if(!is_held(told), b);
+    asked.locked_on = asked.locked_on.with_if(is_granted(told), b);
 }
 
 fn is_granted(told: &Told) -> bool

@@ -24,13 +24,9 @@ pub(crate) fn lookup_request(change: &Change) -> Request
 }
 
 /// A brick was looked at, whatever it told.
-pub(crate) fn lookup_told(b: BrickId, asked: &LocksAndLooks) -> LocksAndLooks
+pub(crate) fn lookup_told(b: BrickId, asked: &mut LocksAndLooks)
     requires { b.0 < 5 }
-    ensures { result ≡ record { lock_asked = asked.now.lock_asked; locked_on = asked.now.locked_on; looked_at = added b.0 asked.now.looked_at } }
+    ensures { asked.new ≡ record asked.old { looked_at = added b.0 asked.old.looked_at } }
 {
-    LocksAndLooks {
-        lock_asked: asked.lock_asked,
-        locked_on: asked.locked_on,
-        looked_at: asked.looked_at.with(b),
-    }
+    asked.looked_at = asked.looked_at.with(b);
 }

@@ -1,5 +1,5 @@
 //! One transaction: what it asks next, and what an answer leaves of it.
-ghost use Rattle.std.specs.Prelude.{[], ◌≡◌, ℕ, ◌<◌, ◌≤◌, ◌+◌, ◌^◌, ◌||◌, if◌then◌else◌, true, false, None, Some, Ok};
+ghost use Rattle.std.specs.Prelude.{[], ◌≡◌, ℕ, ◌<◌, ◌≤◌, ◌+◌, ◌^◌, ◌||◌, if◌then◌else◌, true, false, None, Some, Ok, IfOk};
 ghost use Rattle.afr_discipline.specs.Free.{is_ask};
 ghost use Rattle.afr_discipline.specs.Stands.{no_lines};
 ghost use Rattle.afr_discipline.specs.declared.register.Register.{Register};
@@ -8,16 +8,16 @@ ghost use Rattle.afr_lines.specs.declared.answer.Told.{Told};
 ghost use Rattle.afr_model_moves.specs.Register.{span};
 ghost use Rattle.afr_client_transaction.specs.Between.{given_up, is_read, noted_read};
 ghost use Rattle.afr_client_transaction.specs.Made.{attempted};
-ghost use Rattle.afr_client_transaction.specs.Outcome.{outcome_of};
+ghost use Rattle.afr_client_transaction.specs.Outcome.{outcome_of, reply_of};
 ghost use Rattle.afr_client_transaction.specs.Progress.{CarriesAt, TransactionProgress, allowed, answered, begun, is_beginning, is_over, left, next_at, request_at, starting};
 ghost use Rattle.afr_client_transaction.specs.Sound.{IsUnused, Sound, Suits};
 
 use crate::change::{made_by, numbered};
-use crate::lock::{is_held, lock_request, met_another, says_held};
-use crate::reply::{TransactionOutcome, outcome_of, reply_for};
-use crate::stage::{LocksAndLooks, Stage, after, asked_after, left_of, put_request};
+use crate::lock::{is_held, lock_request, met_another, says_held, to_lock};
+use crate::reply::{TransactionOutcome, outcome_of, reply_of};
+use crate::stage::{LocksAndLooks, Stage, after, asking, left_after};
 use afr_base::{BrickId, BrickSet, NoMemory, Shape};
-use afr_discipline::{Move, Register, fresh, note};
+use afr_discipline::{Move, Register, fresh, note, note_outside};
 use afr_lines::{Answer, Next, Reply, Request, Told, told_of};
 use afr_object::{Change, Load};
 use std::alloc::Global;
@@ -91,11 +91,10 @@ impl Transaction {
         ensures none { result ≡ None → (is_beginning self.now.stage || is_over self.now.stage self.now) ≡ true }
         ensures allowed { (b : BrickId) → result ≡ Some b → allowed self.now.register (Next.Ask b request.new) ≡ true }
     {
-        let left = self.left(self.stage);
+        let left = self.asking(self.stage, request);
         if left.is_empty() {
             return None;
         }
-        self.put_request(self.stage, request);
         Some(left.lowest())
     }
 
@@ -124,7 +123,7 @@ impl Transaction {
         if !self.is_over() {
             return Ok(None);
         }
-        let reply = reply_for(alloc, &self.outcome())?;
+        let reply = self.reply(alloc)?;
         Ok(Some(reply))
     }
 
@@ -176,10 +175,9 @@ impl Transaction {
             return;
         }
         let stage = self.stage;
-        let step = Move::Ask(brick, request);
-        note(&mut self.register, &step, told, at);
-        self.asked = asked_after(stage, brick, told, &self.asked);
-        self.stage = after(stage, &self.change, &self.register, &self.asked);
+        note_outside(&mut self.register, brick, request, told, at);
+        let left = left_after(stage, brick, told, &self.register, &mut self.asked);
+        self.stage = after(stage, left, &self.change, &self.register, &self.asked);
         self.waits = met_another(stage, told);
     }
 
@@ -245,18 +243,23 @@ impl Transaction {
         let _ = &self.register;
     }
 
-    fn left(&self, stage: Stage) -> BrickSet
-        ensures { result ≡ left stage self.now }
-    {
-        left_of(stage, &self.register, &self.asked)
-    }
-
-    fn put_request(&self, stage: Stage, request: &mut Request)
-        ensures { request.new ≡ request_at stage self.now }
+    /// Who is still to be asked, and for what. The request for the lock is there already.
+    fn asking(&self, stage: Stage, request: &mut Request) -> BrickSet
+        ensures left { result ≡ left stage self.now }
+        ensures request { request.new ≡ request_at stage self.now }
     {
         match stage {
-            Stage::Locking => *request = self.lock,
-            _ => put_request(stage, &self.change, &self.register, request),
+            Stage::Locking => {
+                *request = self.lock;
+                to_lock(self.register.shape.n, &self.asked)
+            }
+            _ => asking(stage, &self.change, &self.register, &self.asked, request),
         }
+    }
+
+    fn reply(&self, alloc: Global) -> Result<Reply, NoMemory>
+        ensures { IfOk result (λ reply. reply ≡ reply_of self.now.change self.now.register) }
+    {
+        reply_of(alloc, &self.change, &self.register)
     }
 }

@@ -44,56 +44,77 @@ pub struct LocksAndLooks {
     pub looked_at: BrickSet,
 }
 
-/// Who is still to be asked.
-pub(crate) fn left_of(stage: Stage, r: &Register, asked: &LocksAndLooks) -> BrickSet
+/// Who is still to be asked, and for what: a request is written where it is to stand, for it is large.
+pub(crate) fn asking(
+    stage: Stage,
+    change: &Change,
+    r: &Register,
+    asked: &LocksAndLooks,
+    request: &mut Request,
+) -> BrickSet
     requires { r.now.shape.n ≤ 5 }
-    ensures { result ≡ left_in stage r.now asked.now }
+    ensures left { result ≡ left_in stage r.now asked.now }
+    ensures request { request.new ≡ request_in stage change.now r.now }
 {
     match stage {
-        Stage::Locking => to_lock(r.shape.n, asked),
-        Stage::Looking => to_look_up(asked),
+        Stage::Locking => {
+            *request = lock_request(change);
+            to_lock(r.shape.n, asked)
+        }
+        Stage::Looking => {
+            *request = lookup_request(change);
+            to_look_up(asked)
+        }
+        Stage::Beginning => {
+            *request = lookup_request(change);
+            BrickSet::none()
+        }
+        Stage::Preparing => {
+            *request = pre_op_request(change);
+            to_pre_op(r)
+        }
+        Stage::Applying => {
+            *request = fop_request(r);
+            to_fop(r)
+        }
+        Stage::Posting => {
+            *request = post_op_request(change, r);
+            to_post_op(r)
+        }
+        Stage::Closing => {
+            *request = unlock_request(change);
+            to_unlock(r)
+        }
+    }
+}
+
+/// Who is still to be asked once the brick has answered, which is noted; this is the register since.
+pub(crate) fn left_after(
+    stage: Stage,
+    b: BrickId,
+    told: &Told,
+    r: &Register,
+    asked: &mut LocksAndLooks,
+) -> BrickSet
+    requires few { r.now.shape.n ≤ 5 }
+    requires small { b.0 < 5 }
+    ensures asked { asked.new ≡ asked_by stage b.0 told.now asked.old }
+    ensures left { result ≡ left_in stage r.now asked.new }
+{
+    match stage {
+        Stage::Locking => {
+            lock_told(b, told, asked);
+            to_lock(r.shape.n, asked)
+        }
+        Stage::Looking => {
+            lookup_told(b, asked);
+            to_look_up(asked)
+        }
         Stage::Beginning => BrickSet::none(),
         Stage::Preparing => to_pre_op(r),
         Stage::Applying => to_fop(r),
         Stage::Posting => to_post_op(r),
         Stage::Closing => to_unlock(r),
-    }
-}
-
-/// What is asked, where it is to stand: a request is large, and each line makes one.
-pub(crate) fn put_request(stage: Stage, change: &Change, r: &Register, request: &mut Request)
-    requires { r.now.shape.n ≤ 5 }
-    ensures { request.new ≡ request_in stage change.now r.now }
-{
-    match stage {
-        Stage::Locking => *request = lock_request(change),
-        Stage::Looking => *request = lookup_request(change),
-        Stage::Beginning => *request = lookup_request(change),
-        Stage::Preparing => *request = pre_op_request(change),
-        Stage::Applying => *request = fop_request(r),
-        Stage::Posting => *request = post_op_request(change, r),
-        Stage::Closing => *request = unlock_request(change),
-    }
-}
-
-/// Who was asked, with the brick that has answered now.
-pub(crate) fn asked_after(
-    stage: Stage,
-    b: BrickId,
-    told: &Told,
-    asked: &LocksAndLooks,
-) -> LocksAndLooks
-    requires { b.0 < 5 }
-    ensures { result ≡ asked_by stage b.0 told.now asked.now }
-{
-    match stage {
-        Stage::Locking => lock_told(b, told, asked),
-        Stage::Looking => lookup_told(b, asked),
-        Stage::Beginning => *asked,
-        Stage::Preparing => *asked,
-        Stage::Applying => *asked,
-        Stage::Posting => *asked,
-        Stage::Closing => *asked,
     }
 }
 
@@ -120,13 +141,20 @@ fn go_on(stage: Stage, change: &Change, r: &Register, asked: &LocksAndLooks) -> 
     }
 }
 
-/// The stage after an answer.
-pub(crate) fn after(stage: Stage, change: &Change, r: &Register, asked: &LocksAndLooks) -> Stage
+/// The stage after an answer, where these are left to ask.
+pub(crate) fn after(
+    stage: Stage,
+    left: BrickSet,
+    change: &Change,
+    r: &Register,
+    asked: &LocksAndLooks,
+) -> Stage
     requires few { r.now.shape.n ≤ 5 }
     requires outside { r.now.inside ≡ false }
+    requires left { left ≡ left_in stage r.now asked.now }
     ensures { result ≡ after stage (record { change = change.now; register = r.now; stage = stage; asked = asked.now }) }
 {
-    if left_of(stage, r, asked).is_empty() {
+    if left.is_empty() {
         go_on(stage, change, r, asked)
     } else {
         stage

@@ -102,6 +102,12 @@ is_after_looks shape names read chosen s within l among = go (is_nothing (left_t
     go true k h = is_verdict_step shape.n names read chosen (verdict_of shape s.looked Names) s.looked.views l (low shape s.looked Names chosen within h)
     go false k h = (record { left = k; reached = within }, l)
 
+-- the verdict, once all were asked
+pub over_judged : (chosen : BrickId) (shape : Shape) (s : Looks) (v : Verdict) → is_nothing (left_to_look shape.n s) ≡ true → v ≡ verdict_of shape s.looked Names → verdict_step chosen v s.looked.views ≡ after_looks chosen shape s
+over_judged chosen shape s v over is =
+    ap (λ (v : Verdict). verdict_step chosen v s.looked.views) is
+    ∙ ap (λ (e : Bool). if e then verdict_step chosen (verdict_of shape s.looked Names) s.looked.views else Looking s) (sym over)
+
 -- ---- walks
 pub is_walk_from : (shape : Shape) (path : List NameId) → shape.n ≤ 5 → 0 < shape.n → IsWalk (walk_from shape path)
 is_walk_from shape path few some = record {
@@ -153,10 +159,6 @@ asked_small w b r k walks e = subst (λ (x : BrickId). x.0 < 5) (asked_brick (ne
 
     few : w.shape.n ≤ 5
     few = k.few
-
--- a brick and its request that are those of a pair are the pair
-pub asked_whole : (brick : BrickId) (request : Request) (asked : BrickId × Request) → asked.0 ≡ brick → asked.1 ≡ request → (brick, request) ≡ asked
-asked_whole brick request asked eb er = rw (← eb, ← er) refl
 
 pub is_walked_at : (chosen : BrickId) (step : WalkStep) (heard : Answer) (w : Walk) → IsWalk w → IsStep w.shape.n (length w.path) w.read step → IsAmong (choices_at step heard w) chosen
     → IsWalk (walked_at chosen step heard w)

@@ -1,14 +1,18 @@
 //! Walking a path: each name is read from a good copy of the directory that the names before it lead to, which the read rule
 //! picks once all copies were looked at.
-ghost use Rattle.std.specs.Prelude.{◌≡◌, ◌<◌, ◌≤◌, ◌+◌, IfOk, None, Some, length, false, true};
+ghost use Rattle.std.specs.Prelude.{◌≡◌, ℕ, ◌<◌, ◌≤◌, ◌+◌, IfOk, None, Some, length, false, true};
 ghost use Rattle.afr_base.specs.Bricks.{is_nothing};
-ghost use Rattle.afr_discipline.specs.Notes.{noted_ask};
+ghost use Rattle.afr_base.specs.declared.ids.BrickId.{BrickId};
+ghost use Rattle.afr_lines.specs.declared.answer.Told.{Told};
 ghost use Rattle.afr_lines.specs.declared.line.Next.{Next};
+ghost use Rattle.afr_lines.specs.declared.request.Request.{Request};
 ghost use Rattle.afr_object.specs.Tables.{root_entry};
+ghost use Rattle.afr_choice.specs.Verdict.{verdict_of};
 ghost use Rattle.afr_rule.specs.Choosing.{IsRule};
 ghost use Rattle.afr_client_walk.specs.Choosing.{RuleAnswers, choices, choices_after, reader_of};
-ghost use Rattle.afr_discipline.specs.Free.{AllowsAsk, IsFree, is_free};
+ghost use Rattle.afr_discipline.specs.Free.{AllowsAsk, is_free};
 ghost use Rattle.afr_client_walk.specs.Looks.{IsLooks, heard_look, left_to_look};
+ghost use Rattle.afr_client_walk.specs.declared.looks.Looks.{Looks};
 ghost use Rattle.afr_client_walk.specs.Walk.{IsStep, IsWalk, after_looks, choices_at, choices_of, is_walking, named, next_in, noted, step_at, verdict_step, walk_from, walked, walked_at};
 
 use crate::choosing::{pick_if, reader_of};
@@ -16,9 +20,9 @@ use crate::looks::Looks;
 use crate::stop::Stop;
 use afr_base::{BrickId, Gfid, Kind, NameId, NoMemory, Shape, What};
 use afr_choice::{Verdict, judge};
-use afr_discipline::{Move, Register, fresh, note, renew};
-use afr_lines::{Answer, Request, Told, told_of};
-use afr_object::{Entry, List, View};
+use afr_discipline::{Register, fresh, note_free, renew};
+use afr_lines::{Answer, Request};
+use afr_object::{Entry, List};
 use afr_rule::{Candidate, ReadRule};
 use std::alloc::Global;
 
@@ -68,9 +72,11 @@ impl Walk {
         ensures kept { IsWalk result }
     {
         let root = root();
+        let mut step = WalkStep::Arrived;
+        put_step(names.len(), 0, root, &mut step);
         Walk {
             shape,
-            step: step_from(names.len(), 0, root),
+            step,
             path: names,
             read: 0,
             object: root,
@@ -87,7 +93,7 @@ impl Walk {
     {
         let root = root();
         self.shape = shape;
-        self.step = step_from(names.len(), 0, root);
+        put_step(names.len(), 0, root, &mut self.step);
         self.path = names;
         self.read = 0;
         self.object = root;
@@ -126,20 +132,17 @@ impl Walk {
         ensures value { self.new ≡ walked (reader_of result) answer.now at self.old }
         ensures kept { IsWalk self.new }
     {
-        let told = told_of(answer);
-        self.note(brick, request, &told, at);
+        self.note();
         self.go_on(answer, rule)
     }
 
-    /// A look or a read of the same work was told this, at this position.
-    pub fn note(&mut self, brick: BrickId, request: &Request, told: &Told, at: u32)
-        requires walk { IsWalk self.old }
-        requires small { brick.0 < 5 }
-        requires free { is_free request.now ≡ true }
-        ensures value { self.new ≡ noted (brick, request.now) told.now at self.old }
+    /// A look or a read of the same work was answered.
+    pub fn note(&mut self)
+        requires { IsWalk self.old }
+        ensures value { (asked : BrickId × Request) (told : Told) (at : ℕ) → is_free asked.1 ≡ true → self.new ≡ noted asked told at self.old }
         ensures kept { IsWalk self.new }
     {
-        note_free(self.shape, &mut self.register, brick, request, told, at);
+        note_free(&mut self.register);
     }
 
     fn ask(&self, request: &mut Request) -> Option<BrickId>
@@ -179,13 +182,11 @@ impl Walk {
     {
         match &mut self.step {
             WalkStep::Looking(looks) => {
-                looks.hear(self.shape.n, &told_of(answer));
+                looks.hear(self.shape.n, answer);
                 if !looks.is_over(self.shape.n) {
                     return None;
                 }
-                let (step, picked) = judged_by(self.shape, looks, rule);
-                self.step = step;
-                picked
+                look_over(self.shape, &mut self.step, rule)
             }
             WalkStep::Naming(_) => {
                 self.name_heard(answer);
@@ -204,7 +205,7 @@ impl Walk {
                 let names = self.path.len();
                 self.read += 1;
                 self.object = *entry;
-                self.step = step_from(names, self.read, *entry);
+                put_step(names, self.read, *entry, &mut self.step);
             }
             Answer::Entry(None) => self.step = WalkStep::Stopped(Stop::NoEntry),
             _ => self.step = WalkStep::Stopped(Stop::Failed),
@@ -233,61 +234,78 @@ pub fn names_of(alloc: Global, path: &[NameId]) -> Result<List<NameId>, NoMemory
     Ok(names)
 }
 
-fn note_free(
-    shape: Shape,
-    register: &mut Register,
-    brick: BrickId,
-    request: &Request,
-    told: &Told,
-    at: u32,
-)
-    requires free { IsFree shape register.old }
-    requires few { shape.n ≤ 5 }
-    requires small { brick.0 < 5 }
-    requires asks { is_free request.now ≡ true }
-    ensures value { register.new ≡ noted_ask register.old at brick.0 request.now told.now }
-    ensures kept { IsFree shape register.new }
-{
-    note(register, &Move::Ask(brick, request), told, at);
-}
-
-fn step_from(names: usize, read: usize, object: Entry) -> WalkStep
-    ensures { result ≡ step_at names read object }
+/// The step after so many names, written in its place. It stands apart, as the next ones do, so that only what comes to it pays
+/// for a frame that holds steps.
+#[inline(never)]
+fn put_step(names: usize, read: usize, object: Entry, step: &mut WalkStep)
+    ensures { step.new ≡ step_at names read object }
 {
     if read == names {
-        return WalkStep::Arrived;
+        *step = WalkStep::Arrived;
+        return;
     }
     match object.what {
-        What::Dir => WalkStep::Looking(Looks::new()),
-        What::File => WalkStep::Stopped(Stop::NotDir),
+        What::Dir => *step = WalkStep::Looking(Looks::new()),
+        What::File => *step = WalkStep::Stopped(Stop::NotDir),
     }
 }
 
-/// All bricks were asked: the step that follows, and what the rule has picked.
+/// All bricks were asked: the step that follows is written, and this is what the rule has picked.
+#[inline(never)]
+fn look_over<G: Fn(&[Candidate]) -> usize>(
+    shape: Shape,
+    step: &mut WalkStep,
+    rule: &ReadRule<G>,
+) -> Option<BrickId>
+    requires rule { IsRule G.Fn rule.now }
+    requires few { shape.n ≤ 5 }
+    requires over { (looks : Looks) → step.old ≡ WalkStep.Looking looks → is_nothing (left_to_look shape.n looks) ≡ true }
+    ensures picked { (looks : Looks) → step.old ≡ WalkStep.Looking looks → RuleAnswers G.Fn rule.now (choices_after shape Kind.Names looks) result }
+    ensures step { (looks : Looks) → step.old ≡ WalkStep.Looking looks → step.new ≡ after_looks (reader_of result) shape looks }
+{
+    if let WalkStep::Looking(looks) = step {
+        let (verdict, picked) = judged_by(shape, looks, rule);
+        put_judged(verdict, reader_of(picked), step);
+        return picked;
+    }
+    None
+}
+
+/// The verdict, and what the rule has picked.
 fn judged_by<G: Fn(&[Candidate]) -> usize>(
     shape: Shape,
     looks: &Looks,
     rule: &ReadRule<G>,
-) -> (WalkStep, Option<BrickId>)
+) -> (Verdict, Option<BrickId>)
     requires rule { IsRule G.Fn rule.now }
     requires few { shape.n ≤ 5 }
     requires over { is_nothing (left_to_look shape.n looks.now) ≡ true }
     ensures picked { RuleAnswers G.Fn rule.now (choices_after shape Kind.Names looks.now) result.1 }
-    ensures step { result.0 ≡ after_looks (reader_of result.1) shape looks.now }
+    ensures verdict { result.0 ≡ verdict_of shape looks.now.looked Kind.Names }
 {
     let looked = &looks.looked;
     let verdict = judge(&shape, looked, Kind::Names);
     let picked = pick_if(&verdict, &shape, looked, Kind::Names, rule);
-    (judged(verdict, reader_of(picked), &looked.views), picked)
+    (verdict, picked)
 }
 
-fn judged(verdict: Verdict, chosen: BrickId, views: &[Option<View>; 5]) -> WalkStep
-    ensures { result ≡ verdict_step chosen verdict views.now }
+fn put_judged(verdict: Verdict, chosen: BrickId, step: &mut WalkStep)
+    ensures { (looks : Looks) → step.old ≡ WalkStep.Looking looks → step.new ≡ verdict_step chosen verdict looks.looked.views }
 {
     match verdict {
-        Verdict::Short => WalkStep::Stopped(Stop::NoQuorum),
-        Verdict::Bare => WalkStep::Stopped(Stop::FewCopies),
-        Verdict::Split => WalkStep::Stopped(Stop::SplitBrain(*views)),
-        Verdict::Sources(_) => WalkStep::Naming(chosen),
+        Verdict::Short => *step = WalkStep::Stopped(Stop::NoQuorum),
+        Verdict::Bare => *step = WalkStep::Stopped(Stop::FewCopies),
+        Verdict::Split => split(step),
+        Verdict::Sources(_) => *step = WalkStep::Naming(chosen),
+    }
+}
+
+/// Each copy is accused, as the views show.
+#[inline(never)]
+fn split(step: &mut WalkStep)
+    ensures { (looks : Looks) → step.old ≡ WalkStep.Looking looks → step.new ≡ WalkStep.Stopped (Stop.SplitBrain looks.looked.views) }
+{
+    if let WalkStep::Looking(looks) = step {
+        *step = WalkStep::Stopped(Stop::SplitBrain(looks.looked.views));
     }
 }

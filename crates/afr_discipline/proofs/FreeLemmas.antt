@@ -1,5 +1,5 @@
 -- A free line is allowed after free lines, and leaves the register one of free lines.
-use Rattle.std.proofs.Common.{◌≡◌, ℕ, zero, suc, ◌<◌, ◌&&◌, nat_lt, Bool, true, false, [], refl, ap, ◌∙◌, arith, inl, inr}
+use Rattle.std.proofs.Common.{◌≡◌, ℕ, zero, suc, ◌<◌, ◌&&◌, nat_lt, Bool, true, false, [], refl, sym, ap, subst, ◌∙◌, arith, inl, inr}
 use Rattle.std.proofs.lemmas.Bool.Decides.{nat_tests}
 use Rattle.afr_base.specs.Bricks.{member}
 use Rattle.afr_base.specs.declared.ids.BrickId.{BrickId}
@@ -58,6 +58,19 @@ noted_later shape at b request told h = absurd (cc h)
 pub stays_free : (shape : Shape) (r : Register) (at b : ℕ) (request : Request) (told : Told) → IsFree shape r → is_free request ≡ true → IsFree shape (noted_ask r at b request told)
 stays_free shape r at b request told (inl e) h = inr (ap (λ (x : Register). noted_ask x at b request told) e ∙ noted_first shape at b request told h)
 stays_free shape r at b request told (inr e) h = inr (ap (λ (x : Register). noted_ask x at b request told) e ∙ noted_later shape at b request told h)
+
+-- it is noted by the step alone
+pub noted_free : (r : Register) (at b : ℕ) (request : Request) (told : Told) → IsFree r.shape r → is_free request ≡ true → record r { step = step.Open } ≡ noted_ask r at b request told
+noted_free r at b request told (inl e) h = ap (λ (x : Register). record x { step = step.Open }) e ∙ sym (ap (λ (x : Register). noted_ask x at b request told) e ∙ noted_first r.shape at b request told h)
+noted_free r at b request told (inr e) h = ap (λ (x : Register). record x { step = step.Open }) e ∙ sym (ap (λ (x : Register). noted_ask x at b request told) e ∙ noted_later r.shape at b request told h)
+
+pub opened_free : (r : Register) → IsFree r.shape r → IsFree r.shape (record r { step = step.Open })
+opened_free r (inl e) = inr (ap (λ (x : Register). record x { step = step.Open }) e)
+opened_free r (inr e) = inr (ap (λ (x : Register). record x { step = step.Open }) e)
+
+-- a free register is one of its own shape
+pub free_here : (shape : Shape) (r : Register) → IsFree shape r → IsFree r.shape r
+free_here shape r free = subst (λ (s : Shape). IsFree s r) (sym (shape_is shape r free)) free
 
 -- ---- what is allowed
 both_true : (x y : Bool) → x ≡ true → y ≡ true → (x && y) ≡ true

@@ -10,6 +10,7 @@ mod NotedLaw
 mod NotedShape
 mod NotedUpto
 mod InPlace
+mod Alone
 mod StepsOutside
 mod StepsInside
 mod NotedSteps

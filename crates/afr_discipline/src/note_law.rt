@@ -11,7 +11,7 @@ use afr_base::{BrickId, BrickSet};
 use afr_lines::{Area, Domain, Request, Told};
 
 /// A new transaction, or a new part of a heal.
-fn anew(register: &mut Register, area: Area)
+pub(crate) fn anew(register: &mut Register, area: Area)
     ensures { register.new ≡ anew register.old area }
 {
     register.begun = None;
@@ -139,7 +139,13 @@ fn noted_lock(register: &mut Register, b: BrickId, domain: Domain, area: Area, t
 }
 
 /// Only an unlock that was carried out gives a lock back.
-fn noted_unlock(register: &mut Register, b: BrickId, domain: Domain, area: Area, told: &Told)
+pub(crate) fn noted_unlock(
+    register: &mut Register,
+    b: BrickId,
+    domain: Domain,
+    area: Area,
+    told: &Told,
+)
     requires { b.0 < 5 }
     ensures { register.new ≡ noted_law register.old b.0 (Request.Unlock domain area) told.now }
 {

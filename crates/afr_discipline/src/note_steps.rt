@@ -32,7 +32,7 @@ pub(crate) fn entered(register: &mut Register, step: Step, b: BrickId, again: bo
 }
 
 /// A line that enters no step.
-fn stayed(register: &mut Register)
+pub(crate) fn stayed(register: &mut Register)
     ensures { register.new ≡ stayed register.old }
 {
     if is_same_step(register.step, Step::Untouched) {
@@ -99,7 +99,13 @@ fn noted_lock(register: &mut Register, b: BrickId, domain: Domain, area: Area, t
     }
 }
 
-fn noted_unlock(register: &mut Register, b: BrickId, domain: Domain, area: Area, told: &Told)
+pub(crate) fn noted_unlock(
+    register: &mut Register,
+    b: BrickId,
+    domain: Domain,
+    area: Area,
+    told: &Told,
+)
     ensures { register.new ≡ noted_outside register.old b.0 (Request.Unlock domain area) told.now }
 {
     stayed(register);
@@ -109,7 +115,7 @@ fn noted_unlock(register: &mut Register, b: BrickId, domain: Domain, area: Area,
     }
 }
 
-fn noted_look(register: &mut Register, b: BrickId, g: Gfid, told: &Told)
+pub(crate) fn noted_look(register: &mut Register, b: BrickId, g: Gfid, told: &Told)
     requires { b.0 < 5 }
     ensures { register.new ≡ noted_outside register.old b.0 (Request.Look g) told.now }
 {

@@ -1,6 +1,9 @@
 //! What a move and its answer leave in a register.
-ghost use Rattle.std.specs.Prelude.{◌≡◌, ◌+◌, ◌^◌, ◌<◌, ◌≤◌, if◌then◌else◌, length};
+ghost use Rattle.std.specs.Prelude.{◌≡◌, ℕ, ◌+◌, ◌^◌, ◌<◌, ◌≤◌, if◌then◌else◌, length, true};
+ghost use Rattle.afr_lines.specs.declared.answer.Told.{Told};
+ghost use Rattle.afr_lines.specs.declared.request.Request.{Request};
 ghost use Rattle.afr_model_moves.specs.Register.{Exact, span};
+ghost use Rattle.afr_discipline.specs.Free.{IsFree, is_free};
 ghost use Rattle.afr_discipline.specs.Moves.{note_move};
 ghost use Rattle.afr_discipline.specs.Notes.{AsksBelow, IsAllowed, noted, noted_ask, noted_begin, noted_part, upto_noted};
 ghost use Rattle.afr_model_moves.specs.Keeps.{keeps_in};
@@ -18,7 +21,13 @@ use afr_object::View;
 
 /// A request and its answer. The steps come first: they read the locks as they were before, and the locks never read
 /// the steps.
-fn noted_ask(register: &mut Register, at: u32, b: BrickId, request: &Request, told: &Told)
+pub(crate) fn noted_ask(
+    register: &mut Register,
+    at: u32,
+    b: BrickId,
+    request: &Request,
+    told: &Told,
+)
     requires few { register.old.shape.n ≤ 5 }
     requires small { b.0 < 5 }
     requires room { register.old.upto + span < 2 ^ 32 }
@@ -122,4 +131,13 @@ pub fn note_allowed(register: &mut Register, b: BrickId, request: &Request, told
     ensures shape { register.new.shape ≡ register.old.shape }
 {
     noted_allowed(register, at, b, request, told);
+}
+
+/// Notes a look or a read without a lock, after none but such: it leaves nothing but that it was.
+pub fn note_free(register: &mut Register)
+    requires { IsFree register.old.shape register.old }
+    ensures value { (at b : ℕ) (request : Request) (told : Told) → is_free request ≡ true → register.new ≡ noted_ask register.old at b request told }
+    ensures kept { IsFree register.old.shape register.new }
+{
+    register.step = Step::Open;
 }

@@ -141,7 +141,7 @@ pub fn renew(register: &mut Register)
 }
 
 /// Nobody was looked at, written where it stands.
-fn forget(looked: &mut Looked)
+pub(crate) fn forget(looked: &mut Looked)
     ensures { looked.new ≡ no_looks }
 {
     has_five(&looked.views);

@@ -6,5 +6,5 @@ use Rattle.afr_client_transaction.proofs.Heard.{allowed_asked}
 use Rattle.afr_client_transaction.proofs.machine.Transaction.asks.Goals as goal
 
 pub returns-clause-allowed : goal.returns-clause-allowed
-returns-clause-allowed c = λ b e. allowed_asked c.args.self.now (subst Sound c.self.view_is c.self.invariant.0.sound) c.self.inside.stage c.lowest.result b c.put_request.new.request (ap (λ (m : TransactionProgress). m.stage) (sym c.self.view_is))
-    (c.lowest.ensures.number ∙ ap lowest c.left-left.ensures) c.put_request.ensures (ap is_nothing (sym c.left-left.ensures) ∙ sym c.is_empty.ensures ∙ c.if-is_empty.false) e
+returns-clause-allowed c = λ b e. allowed_asked c.args.self.now (subst Sound c.self.view_is c.self.invariant.0.sound) c.self.inside.stage c.lowest.result b c.asking-left.new.request (ap (λ (m : TransactionProgress). m.stage) (sym c.self.view_is))
+    (c.lowest.ensures.number ∙ ap lowest c.asking-left.ensures.left) c.asking-left.ensures.request (ap is_nothing (sym c.asking-left.ensures.left) ∙ sym c.is_empty.ensures ∙ c.if-is_empty.false) e
