@@ -43,11 +43,47 @@ pub fn holders(looked: &Looked) -> BrickSet
 pub fn good(shape: &Shape, looked: &Looked, kind: Kind) -> BrickSet
     ensures { result ≡ good_copies shape.now looked.now kind }
 {
+    if accuses_nobody(looked, kind) {
+        return copies(shape, looked, kind);
+    }
+    good_among(shape, looked, kind)
+}
+
+/// The same where some copy is accused. It stands apart, since most copies aren't.
+#[inline(never)]
+fn good_among(shape: &Shape, looked: &Looked, kind: Kind) -> BrickSet
+    ensures { result ≡ good_copies shape.now looked.now kind }
+{
     let mut set = BrickSet::none();
     for b in 0..5u8 {
         set = set.with_if(is_clean(shape, looked, kind, BrickId(b)), BrickId(b));
     }
     set
+}
+
+/// Whether no brick that was reached accuses another. No says nothing.
+fn accuses_nobody(looked: &Looked, kind: Kind) -> bool
+    ensures { result ≡ true → (c : ℕ) → c < 5 → is_accused kind looked.now c ≡ false }
+{
+    for x in 0..5u8 {
+        if accuses_some(&looked.views[x as usize], kind) {
+            return false;
+        }
+    }
+    true
+}
+
+/// Whether a view accuses a brick.
+fn accuses_some(view: &Option<View>, kind: Kind) -> bool
+    ensures { result ≡ false → (c : ℕ) → c < 5 → shown_missed kind c view.now ≡ false }
+{
+    match view {
+        Some(view) => {
+            let p = &view.marks.of(kind).pending;
+            (p[0] | p[1] | p[2] | p[3] | p[4]) != 0
+        }
+        None => false,
+    }
 }
 
 /// What the copies of this kind come to.
