@@ -1,5 +1,6 @@
 -- Objects that are put into a rising list and taken out of it, one by one and by the row.
-use Rattle.std.proofs.Common.{◌≡◌, ℕ, suc, zero, ◌<◌, ◌≤◌, Bool, true, false, cond, not, filter, List, [], ◌∷◌, ◌++◌, Option, Some, None, refl, sym, ap, ◌∙◌, ◌⊎◌, inl, inr, arith, ◌==◌, if◌then◌else◌}
+use Rattle.std.proofs.Common.{◌≡◌, ℕ, ◌+◌, ◌<◌, Bool, true, false, cond, not, filter, length, take, get_or, add-one, [], ◌∷◌, ◌++◌, Option, Some, None, refl, sym, ap, ◌∙◌, ◌⊎◌, inl, inr, arith, ◌==◌, if◌then◌else◌}
+use Rattle.std.proofs.Math.Seq.{take-suc}
 use Rattle.std.proofs.lemmas.Bool.Decides.{eqb_tells, nat_tests}
 use Rattle.std.specs.BTreeMap.{is_at, insert_entry}
 use Rattle.std.specs.List.{AllByRecursion}
@@ -59,6 +60,10 @@ rising_all (e ∷ row) t h = rising_all row (put e.0 e.1 t) (rising_put e.0 e.1 
 pub pushed : (row t : Listed) (g : Gfid) (what : What) → with_all (row ++ (g, what) ∷ []) t ≡ put g what (with_all row t)
 pushed [] t g what = refl
 pushed (e ∷ row) t g what = pushed row (put e.0 e.1 t) g what
+
+-- one more of the row is put in
+pub next : (row t : Listed) (i : ℕ) (d : Gfid × What) → i < length row → with_all (take (i + 1) row) t ≡ put (get_or row i d).0 (get_or row i d).1 (with_all (take i row) t)
+next row t i d l = rw (add-one, take-suc row i d l) (pushed (take i row) t (get_or row i d).0 (get_or row i d).1)
 
 -- ---- an object is taken out
 without_below : (g : Gfid) (t : Listed) → IsBelow g t → without g t ≡ t

@@ -5,7 +5,7 @@ ghost use Rattle.std.specs.Map.{remove_entry};
 ghost use Rattle.afr_object.specs.Tables.{gfid_cmp};
 ghost use Rattle.afr_index.specs.Listed.{IsRising, Lists, Drops};
 
-use crate::late::{drop_late, make_place, put_in, take_out};
+use crate::late::{drop_late, entries_of, make_place, put_in, take_out};
 use afr_base::{Gfid, NoMemory, What};
 use afr_object::{IndexList, List};
 use std::alloc::Global;
@@ -68,10 +68,7 @@ impl Index {
         ensures ok { IfOk result (λ list. list ≡ self.now) }
         ensures rising { IsRising self.now }
     {
-        let mut list = Vec::new(self.alloc);
-        for (g, what) in self.kinds.iter() {
-            list.push((*g, *what))?;
-        }
+        let mut list = entries_of(self.alloc, &self.kinds)?;
         for entry in self.late.as_slice() {
             put_in(&mut list, entry.0, entry.1)?;
         }

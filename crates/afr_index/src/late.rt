@@ -1,12 +1,12 @@
 //! The objects that were listed last: a short row, which is walked over, before the map, which is searched.
-ghost use Rattle.std.specs.Prelude.{◌≡◌, ◌<◌, ◌≤◌, ℕ, filter, not, ◌==◌, length, slice_index_or, OnOk};
+ghost use Rattle.std.specs.Prelude.{◌≡◌, filter, not, ◌==◌, IfOk, OnOk};
 ghost use Rattle.std.specs.BTreeMap.{is_at, insert_entry};
 ghost use Rattle.std.specs.Map.{remove_entry};
-ghost use Rattle.afr_base.specs.declared.ids.What.TheVariants.{File};
 ghost use Rattle.afr_object.specs.Tables.{gfid_cmp};
 ghost use Rattle.afr_index.specs.Listed.{IsRising, IsSpot, with_all};
 
 use afr_base::{Gfid, NoMemory, What};
+use std::alloc::Global;
 use std::collections::BTreeMap;
 
 /// So many objects stand in the row: to walk over them costs less than a search.
@@ -65,6 +65,20 @@ pub(crate) fn take_out(kinds: &mut BTreeMap<Gfid, What>, g: Gfid)
         return;
     }
     kinds.remove(&g);
+}
+
+/// The objects of the map, in a list.
+pub(crate) fn entries_of(
+    alloc: Global,
+    kinds: &BTreeMap<Gfid, What>,
+) -> Result<Vec<(Gfid, What)>, NoMemory>
+    ensures { IfOk result (λ list. list.items ≡ kinds.now.entries) }
+{
+    let mut list = Vec::new(alloc);
+    for (g, what) in kinds.iter() {
+        list.push((*g, *what))?;
+    }
+    Ok(list)
 }
 
 /// Puts an object in at its place.

@@ -1,5 +1,5 @@
 -- The object leaves the row and the map.
-use Rattle.std.proofs.Common.{◌≡◌, ap, ◌∙◌}
+use Rattle.std.proofs.Common.{◌≡◌, ◌==◌, not, filter, ap, ◌∙◌}
 use Rattle.std.specs.BTreeMap.{is_at}
 use Rattle.std.specs.Map.{remove_entry}
 use Rattle.afr_object.specs.Tables.{gfid_cmp}
@@ -10,7 +10,7 @@ use Rattle.afr_index.proofs.index.Index.clear.Goals as goal
 is_taken : (c : goal.After-take_out) → with_all c.drop_late.new.late.items c.take_out.new.kinds.entries ≡ remove_entry (is_at (gfid_cmp c.args.g)) (with_all c.self.inside.late.items c.self.inside.kinds.entries)
 is_taken c =
     ap (λ (row : Listed). with_all row c.take_out.new.kinds.entries) c.drop_late.ensures
-    ∙ ap (λ (kinds : Listed). with_all _ kinds) c.take_out.ensures.entries
+    ∙ ap (λ (kinds : Listed). with_all (filter (λ e. not (e.0.0 == c.args.g.0)) c.self.inside.late.items) kinds) c.take_out.ensures.entries
     ∙ cleared c.args.g c.self.inside.late.items c.self.inside.kinds.entries c.self.invariant
 
 pub returns-clause-same : goal.returns-clause-same
