@@ -4,3 +4,5 @@ pub mod IndexLemmas
 pub mod Made
 pub mod Mended
 pub mod PlacesLemmas
+pub mod OpenLemmas
+pub mod ShortcutsLemmas

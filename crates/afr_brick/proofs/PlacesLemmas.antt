@@ -10,13 +10,14 @@ use Rattle.std.specs.Ordering.{match_ordering}
 use Rattle.std.specs.declared.cmp.Ordering.{Ordering}
 use Rattle.std.specs.declared.cmp.Ordering.TheVariants.{Less, Equal, Greater}
 use Rattle.std.specs.BTreeMap.{is_at, insert_entry}
-use Rattle.std.specs.Map.{keys_of, lookup, remove_entry, set_value}
+use Rattle.std.specs.Map.{keys_of, lookup, remove_entry}
 use Rattle.afr_base.specs.declared.ids.Gfid.{Gfid}
 use Rattle.afr_base.specs.declared.ids.What.TheVariants.{File}
 use Rattle.afr_object.specs.Object.{Object}
 use Rattle.afr_object.specs.Tables.{Table, changed, copy_at, gfid_cmp, new_object, opening_gfid, with_copy}
 use Rattle.afr_object.specs.TablesLemmas.{same_gfid}
-use Rattle.afr_brick.specs.Placed.{AreApart, AreFound, IsPlaceOf, IsPlaced, Lacks, Remembers, object_at, table}
+use Rattle.afr_brick.specs.Placed.{AreApart, AreFound, AreKept, IsPlaceOf, IsPlaced, Keeps, Knows, Lacks, Learns, Remembers, object_at, table}
+use Rattle.afr_brick.specs.declared.shortcuts.Shortcuts.{Shortcuts}
 
 -- where a gfid stands
 abbrev pub placed : Gfid → List (Gfid × ℕ) → Option ℕ
@@ -84,8 +85,8 @@ with_copy-table g w objects (e ∷ places) p apart there = step (is_at (gfid_cmp
     step false there more =
         cons_same e.0 _ _ _ _ (get_or-set_other objects p e.1 w (new_object File) (λ same. other_place g e.1 p places apart.1 there same)) (more there)
 
-placed-set : (objects : List Object) (places : List (Gfid × ℕ)) (opening : List ℕ) (p : ℕ) (w : Object) → IsPlaced objects places opening → IsPlaced (set objects p w) places opening
-placed-set objects places opening p w is = record { apart = subst (λ n. AreApart n places) (sym (length-set objects p w)) is.apart; found = is.found }
+placed-set : (objects : List Object) (places : List (Gfid × ℕ)) (shortcuts : Shortcuts) (p : ℕ) (w : Object) → IsPlaced objects places shortcuts → IsPlaced (set objects p w) places shortcuts
+placed-set objects places shortcuts p w is = record { apart = subst (λ n. AreApart n places) (sym (length-set objects p w)) is.apart; found = is.found; kept = is.kept }
 
 -- ---- an object is put in
 more_room : (n : ℕ) (places : List (Gfid × ℕ)) → AreApart n places → AreApart (n + 1) places
@@ -169,22 +170,37 @@ found-remembered g n places old new lacks found (inr more) = rw more.1 each
           subst (λ (x : Gfid). placed x (insert_entry gfid_cmp places g n) ≡ Some p) same (placed-insert g g n places ∙ itself ∙ ap Some (sym last.1))
     ]
 
+-- what is kept in slots is right with one more place, in a slot or in none
+kept-learned : (g : Gfid) (n : ℕ) (places old new : List (Gfid × ℕ)) → placed g places ≡ None → AreKept old places → Keeps g n old new → AreKept new (insert_entry gfid_cmp places g n)
+kept-learned g n places old new lacks kept keeps i e at = elim (keeps i e at) [
+  | inl this ↦ subst (λ (x : Gfid × ℕ). placed x.0 (insert_entry gfid_cmp places g n) ≡ Some x.1) (sym this) (placed-insert g g n places ∙ itself)
+  | inr that ↦ still_placed g e.0 n e.1 places lacks (kept that.0 e that.1)
+]
+  where
+    itself : (if g.0 == g.0 then Some n else placed g places) ≡ Some n
+    itself = grind (arith, nat_tests)
+
 -- the place that is remembered for a gfid is its place
 pub found_at : (g : Gfid) (places : List (Gfid × ℕ)) (opening : List ℕ) (i p : ℕ) → AreFound opening places → g.0 ≡ 2 ^ 64 + 1 + i → slice_get opening i ≡ Some p → Some p ≡ placed g places
 found_at g places opening i p found number at =
     let same : g ≡ opening_gfid (suc i) = ap (λ (x : ℕ). record { 0 = x }) (omega (arith, number)) in
     rw same (sym (found i p at))
 
+pub known_at : (g : Gfid) (objects : List Object) (places : List (Gfid × ℕ)) (shortcuts : Shortcuts) (p : ℕ) → IsPlaced objects places shortcuts → Knows shortcuts g p → Some p ≡ placed g places
+known_at g objects places shortcuts p is (inl it) = found_at g places shortcuts.opening.items it.0 p is.found it.1 it.2
+known_at g objects places shortcuts p is (inr it) = sym (is.kept it.0 (g, p) it.1)
+
 -- An object is put in under a gfid that the brick lacked.
 pub table_put : (g : Gfid) (o made : Object) (objects after : List Object) (places placed_after : List (Gfid × ℕ)) (n : ℕ) → AreApart (length objects) places → n ≡ length objects → after ≡ objects ++ o ∷ [] → placed_after ≡ insert_entry gfid_cmp places g n → o ≡ made
     → table after placed_after ≡ insert_entry gfid_cmp (table objects places) g made
 table_put g o made objects after places placed_after n apart last pushed put is = rw (pushed, put, last, is) (table-insert g made objects places apart)
 
-pub placed_put : (g : Gfid) (o : Object) (objects after : List Object) (places placed_after : List (Gfid × ℕ)) (old new : List ℕ) (n : ℕ) → copy_at g (table objects places) ≡ None → IsPlaced objects places old → n ≡ length objects
-    → after ≡ objects ++ o ∷ [] → placed_after ≡ insert_entry gfid_cmp places g n → Remembers g n old new → IsPlaced after placed_after new
-placed_put g o objects after places placed_after old new n lacks is last pushed put remembers = record {
+pub placed_put : (g : Gfid) (o : Object) (objects after : List Object) (places placed_after : List (Gfid × ℕ)) (old new : Shortcuts) (n : ℕ) → copy_at g (table objects places) ≡ None → IsPlaced objects places old → n ≡ length objects
+    → after ≡ objects ++ o ∷ [] → placed_after ≡ insert_entry gfid_cmp places g n → Learns g n old new → IsPlaced after placed_after new
+placed_put g o objects after places placed_after old new n lacks is last pushed put learns = record {
   apart = rw (pushed, put, last, length-append objects (o ∷ [])) (apart-insert (length objects) g places is.apart);
-  found = rw put (found-remembered g n places old new (absent (placed g places) refl) is.found remembers);
+  found = rw put (found-remembered g n places old.opening.items new.opening.items (absent (placed g places) refl) is.found learns.opening);
+  kept = rw put (kept-learned g n places old.others.items new.others.items (absent (placed g places) refl) is.kept learns.others);
 }
   where
     absent : (o : Option ℕ) → placed g places ≡ o → placed g places ≡ None
@@ -195,10 +211,11 @@ placed_put g o objects after places placed_after old new n lacks is last pushed 
 pub table_spare : (o : Object) (objects after : List Object) (places placed_after : List (Gfid × ℕ)) → AreApart (length objects) places → after ≡ objects ++ o ∷ [] → placed_after ≡ places → table after placed_after ≡ table objects places
 table_spare o objects after places placed_after apart pushed same = rw (pushed, same) (table-more o objects places apart)
 
-pub placed_spare : (o : Object) (objects after : List Object) (places placed_after : List (Gfid × ℕ)) (opening : List ℕ) → IsPlaced objects places opening → after ≡ objects ++ o ∷ [] → placed_after ≡ places → IsPlaced after placed_after opening
-placed_spare o objects after places placed_after opening is pushed same = record {
+pub placed_spare : (o : Object) (objects after : List Object) (places placed_after : List (Gfid × ℕ)) (shortcuts : Shortcuts) → IsPlaced objects places shortcuts → after ≡ objects ++ o ∷ [] → placed_after ≡ places → IsPlaced after placed_after shortcuts
+placed_spare o objects after places placed_after shortcuts is pushed same = record {
   apart = rw (pushed, same, length-append objects (o ∷ [])) (more_room (length objects) places is.apart);
   found = rw same is.found;
+  kept = rw same is.kept;
 }
 
 -- ---- a place is given up
@@ -248,31 +265,34 @@ apart_dropped g w objects places p apart = subst (λ n. AreApart n (remove_entry
 pub none_found : (places : List (Gfid × ℕ)) → AreFound [] places
 none_found places i p at = absurd (none-some _ at)
 
+pub none_kept : (places : List (Gfid × ℕ)) → AreKept [] places
+none_kept places i e at = absurd (none-some _ at)
+
 -- ---- the place of a gfid
-pub is_place_of : (g : Gfid) (objects : List Object) (places : List (Gfid × ℕ)) (opening : List ℕ) (p : ℕ) → IsPlaced objects places opening → Some p ≡ placed g places → IsPlaceOf objects places opening g p
-is_place_of g objects places opening p is there = record {
+pub is_place_of : (g : Gfid) (objects : List Object) (places : List (Gfid × ℕ)) (shortcuts : Shortcuts) (p : ℕ) → IsPlaced objects places shortcuts → Some p ≡ placed g places → IsPlaceOf objects places shortcuts g p
+is_place_of g objects places shortcuts p is there = record {
   within = within g (length objects) places p is.apart there;
   there = copy_there g objects places p there;
   written = λ w. with_copy-table g w objects places p is.apart there;
-  kept = λ w. placed-set objects places opening p w is;
+  kept = λ w. placed-set objects places shortcuts p w is;
 }
 
-pub place_or_none : (g : Gfid) (objects : List Object) (places : List (Gfid × ℕ)) (opening : List ℕ) (r : Option ℕ) → IsPlaced objects places opening → r ≡ placed g places
-    → MatchOption r (copy_at g (table objects places) ≡ None) (λ p. IsPlaceOf objects places opening g p)
-place_or_none g objects places opening None is e = copy_absent g objects places e
-place_or_none g objects places opening (Some p) is e = is_place_of g objects places opening p is e
+pub place_or_none : (g : Gfid) (objects : List Object) (places : List (Gfid × ℕ)) (shortcuts : Shortcuts) (r : Option ℕ) → IsPlaced objects places shortcuts → r ≡ placed g places
+    → MatchOption r (copy_at g (table objects places) ≡ None) (λ p. IsPlaceOf objects places shortcuts g p)
+place_or_none g objects places shortcuts None is e = copy_absent g objects places e
+place_or_none g objects places shortcuts (Some p) is e = is_place_of g objects places shortcuts p is e
 
 -- What was read at the place of a gfid is its copy.
-pub copy_read : (g : Gfid) (x : Object) (objects : List Object) (places : List (Gfid × ℕ)) (opening : List ℕ) (p : ℕ) → IsPlaceOf objects places opening g p → x ≡ get_or objects p x → copy_at g (table objects places) ≡ Some x
-copy_read g x objects places opening p is read = is.there ∙ ap Some (sym (get_or_read objects p x is.within read (new_object File)))
+pub copy_read : (g : Gfid) (x : Object) (objects : List Object) (places : List (Gfid × ℕ)) (shortcuts : Shortcuts) (p : ℕ) → IsPlaceOf objects places shortcuts g p → x ≡ get_or objects p x → copy_at g (table objects places) ≡ Some x
+copy_read g x objects places shortcuts p is read = is.there ∙ ap Some (sym (get_or_read objects p x is.within read (new_object File)))
 
 -- What is written there changes the copy.
-pub copy_written : (f : Object → Object) (g : Gfid) (x w : Object) (objects : List Object) (places : List (Gfid × ℕ)) (opening : List ℕ) (p : ℕ) → IsPlaceOf objects places opening g p → x ≡ get_or objects p x
+pub copy_written : (f : Object → Object) (g : Gfid) (x w : Object) (objects : List Object) (places : List (Gfid × ℕ)) (shortcuts : Shortcuts) (p : ℕ) → IsPlaceOf objects places shortcuts g p → x ≡ get_or objects p x
     → w ≡ f x → table (set objects p w) places ≡ changed f g (copy_at g (table objects places)) (table objects places)
-copy_written f g x w objects places opening p is read new =
+copy_written f g x w objects places shortcuts p is read new =
     is.written w
     ∙ ap (λ (o : Object). with_copy g o (table objects places)) new
-    ∙ ap (λ (o : Option Object). changed f g o (table objects places)) (sym (copy_read g x objects places opening p is read))
+    ∙ ap (λ (o : Option Object). changed f g o (table objects places)) (sym (copy_read g x objects places shortcuts p is read))
 
 -- An object that is written as it was leaves the tables.
 pub copy_kept : (x w : Object) (objects : List Object) (places : List (Gfid × ℕ)) (p : ℕ) → x ≡ get_or objects p x → w ≡ x → table (set objects p w) places ≡ table objects places

@@ -1,5 +1,5 @@
 //! A brick: its objects, and the index of those with a changelog number above zero.
-ghost use Rattle.std.specs.Prelude.{◌≡◌, ◌≢◌, ◌↔◌, None, true, not, IfOk, OnOk, OnErr, option_map};
+ghost use Rattle.std.specs.Prelude.{◌≡◌, ◌≢◌, ◌↔◌, None, Some, true, false, not, IfOk, OnOk, OnErr, option_map};
 ghost use Rattle.afr_base.specs.Marks.{closed_op, dirtied, taken_back};
 ghost use Rattle.afr_object.specs.State.{CanApply, CanPost, CanPre, CanRepair, CanSettle, Copies, IsInOrder, contents_of, repair_takes_memory, takes_memory};
 ghost use Rattle.afr_object.specs.Repairs.{mended, repaired};
@@ -63,6 +63,14 @@ impl Brick {
         ensures { result ≡ option_map view_of (copy_at g self.now.objects) }
     {
         self.store.look(g)
+    }
+
+    /// The same, written in its place. Yes says that there is a copy.
+    pub fn show(&self, g: Gfid, view: &mut View) -> bool
+        ensures yes { result ≡ true → option_map view_of (copy_at g self.now.objects) ≡ Some view.new }
+        ensures no { result ≡ false → copy_at g self.now.objects ≡ None }
+    {
+        self.store.show(g, view)
     }
 
     /// Carries a change out. A change of bytes leaves a directory as it is, a change of names leaves

@@ -7,7 +7,7 @@ ghost use Rattle.afr_object.specs.State.{CanApply, takes_memory};
 ghost use Rattle.afr_object.specs.Tables.{applied, changed, copy_at, gfid_cmp, linked, name_cmp, new_object, object_of, with_attr, with_bytes, with_names};
 
 use crate::object::Object;
-use crate::places::{give_up, place_of, remember};
+use crate::places::{give_up, place_of};
 use crate::refused::Refused;
 use crate::store::Store;
 use afr_base::{Gfid, KeyId, NameId, NoMemory, ValueId, What};
@@ -44,7 +44,7 @@ impl Store {
         ensures absent { (result ≡ Err Refused.NoObject) ↔ (copy_at g self.old.objects ≡ None) }
         ensures err { OnErr result (self.new ≡ self.old) }
     {
-        let Some(place) = place_of(&self.objects, &self.places, &self.opening, g) else {
+        let Some(place) = place_of(&self.objects, &self.places, &self.shortcuts, g) else {
             return Err(Refused::NoObject);
         };
         let object = &mut self.objects[place];
@@ -59,7 +59,7 @@ impl Store {
         ensures never { result ≢ Err Refused.NoMemory }
         ensures err { OnErr result (self.new ≡ self.old) }
     {
-        let Some(place) = place_of(&self.objects, &self.places, &self.opening, g) else {
+        let Some(place) = place_of(&self.objects, &self.places, &self.shortcuts, g) else {
             return Err(Refused::NoObject);
         };
         let object = &mut self.objects[place];
@@ -73,7 +73,7 @@ impl Store {
         ensures absent { (result ≡ Err Refused.NoObject) ↔ (copy_at g self.old.objects ≡ None) }
         ensures err { OnErr result (self.new ≡ self.old) }
     {
-        let Some(place) = place_of(&self.objects, &self.places, &self.opening, g) else {
+        let Some(place) = place_of(&self.objects, &self.places, &self.shortcuts, g) else {
             return Err(Refused::NoObject);
         };
         let object = &mut self.objects[place];
@@ -88,7 +88,7 @@ impl Store {
         ensures never { result ≢ Err Refused.NoMemory }
         ensures err { OnErr result (self.new ≡ self.old) }
     {
-        let Some(place) = place_of(&self.objects, &self.places, &self.opening, dir) else {
+        let Some(place) = place_of(&self.objects, &self.places, &self.shortcuts, dir) else {
             return Err(Refused::NoObject);
         };
         let object = &mut self.objects[place];
@@ -144,7 +144,7 @@ impl Store {
         let place = self.objects.as_slice().len();
         self.objects.push(Object::new(self.alloc, what))?;
         self.places.insert(gfid, place)?;
-        remember(&mut self.opening, gfid, place);
+        self.shortcuts.add(gfid, place);
         Ok(())
     }
 
@@ -152,7 +152,7 @@ impl Store {
         ensures { self.new ≡ record self.old { objects = remove_entry (is_at (gfid_cmp gfid)) self.old.objects } }
     {
         give_up(self.alloc, &mut self.objects, &mut self.places, gfid);
-        self.opening.clear();
+        self.shortcuts.clear();
     }
 
     #[tactic(auto, using(std::proofs::lemmas::Map::Steps::set_value_same))]
@@ -161,7 +161,7 @@ impl Store {
         ensures absent { (result ≡ Err Refused.NoObject) ↔ (copy_at dir self.old.objects ≡ None) }
         ensures err { OnErr result (self.new ≡ self.old) }
     {
-        let Some(place) = place_of(&self.objects, &self.places, &self.opening, dir) else {
+        let Some(place) = place_of(&self.objects, &self.places, &self.shortcuts, dir) else {
             return Err(Refused::NoObject);
         };
         let object = &mut self.objects[place];

@@ -11,6 +11,7 @@ mod reads;
 mod refused;
 mod repairs;
 mod same;
+mod shortcuts;
 mod store;
 
 pub use brick::Brick;

@@ -33,13 +33,13 @@ impl Store {
         ensures index { IfOk result (λ stays. stays ≡ true → index_of self.new.objects ≡ index_of self.old.objects) }
     {
         stand_in_order(&self.objects, &self.places);
-        let Some(place) = place_of(&self.objects, &self.places, &self.opening, g) else {
+        let Some(place) = place_of(&self.objects, &self.places, &self.shortcuts, g) else {
             return Err(Refused::NoObject);
         };
         let object = &mut self.objects[place];
         let was = object.is_clean();
         object.pre(kind);
-        Ok(stays(was, object))
+        Ok(!was)
     }
 
     /// The post-op: one operation fewer is open, and each brick that missed it is accused.
@@ -53,13 +53,12 @@ impl Store {
         ensures index { IfOk result (λ stays. stays ≡ true → index_of self.new.objects ≡ index_of self.old.objects) }
     {
         stand_in_order(&self.objects, &self.places);
-        let Some(place) = place_of(&self.objects, &self.places, &self.opening, g) else {
+        let Some(place) = place_of(&self.objects, &self.places, &self.shortcuts, g) else {
             return Err(Refused::NoObject);
         };
         let object = &mut self.objects[place];
-        let was = object.is_clean();
         object.post(kind, missed);
-        Ok(stays(was, object))
+        Ok(!object.is_clean())
     }
 
     /// Takes back the numbers that a heal has settled.
@@ -73,7 +72,7 @@ impl Store {
         ensures index { IfOk result (λ stays. stays ≡ true → index_of self.new.objects ≡ index_of self.old.objects) }
     {
         stand_in_order(&self.objects, &self.places);
-        let Some(place) = place_of(&self.objects, &self.places, &self.opening, g) else {
+        let Some(place) = place_of(&self.objects, &self.places, &self.shortcuts, g) else {
             return Err(Refused::NoObject);
         };
         let object = &mut self.objects[place];

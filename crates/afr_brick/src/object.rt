@@ -58,6 +58,15 @@ impl Object {
         }
     }
 
+    /// The same, written in its place.
+    pub(crate) fn show(&self, view: &mut View)
+        ensures { view.new ≡ view_of self.now }
+    {
+        view.what = self.what;
+        view.len = self.content.len();
+        view.marks = self.marks;
+    }
+
     pub(crate) fn what(&self) -> What
         ensures { result ≡ self.now.what }
     {

@@ -62,7 +62,7 @@ impl Store {
         ensures absent { (result ≡ Err Refused.NoObject) ↔ (copy_at g self.old.objects ≡ None) }
         ensures err { OnErr result (self.new ≡ self.old) }
     {
-        let Some(place) = place_of(&self.objects, &self.places, &self.opening, g) else {
+        let Some(place) = place_of(&self.objects, &self.places, &self.shortcuts, g) else {
             return Err(Refused::NoObject);
         };
         let object = &mut self.objects[place];
@@ -77,7 +77,7 @@ impl Store {
         ensures absent { (result ≡ Err Refused.NoObject) ↔ (copy_at g self.old.objects ≡ None) }
         ensures err { OnErr result (self.new ≡ self.old) }
     {
-        let Some(place) = place_of(&self.objects, &self.places, &self.opening, g) else {
+        let Some(place) = place_of(&self.objects, &self.places, &self.shortcuts, g) else {
             return Err(Refused::NoObject);
         };
         let object = &mut self.objects[place];
@@ -130,7 +130,7 @@ impl Store {
     fn rename(&mut self, g: Gfid, names: SortedMap<NameId, Entry>)
         ensures { self.new ≡ record self.old { objects = changed (with_names (λ old. names)) g (copy_at g self.old.objects) self.old.objects } }
     {
-        if let Some(place) = place_of(&self.objects, &self.places, &self.opening, g) {
+        if let Some(place) = place_of(&self.objects, &self.places, &self.shortcuts, g) {
             self.objects[place].put_names(names);
         }
     }

@@ -1,5 +1,5 @@
 //! The objects of a brick, without its index, and looks at its copies.
-ghost use Rattle.std.specs.Prelude.{◌≡◌, [], not, is_some, IfOk, option_map};
+ghost use Rattle.std.specs.Prelude.{◌≡◌, [], true, false, None, Some, not, is_some, IfOk, option_map};
 ghost use Rattle.std.specs.Option.{option_copied};
 ghost use Rattle.afr_object.specs.State.{Copies};
 ghost use Rattle.afr_object.specs.Indexed.{index_of};
@@ -7,6 +7,7 @@ ghost use Rattle.afr_object.specs.Tables.{copy_at, opening, view_of};
 
 use crate::object::Object;
 use crate::places::place_of;
+use crate::shortcuts::Shortcuts;
 use afr_base::{Gfid, NoMemory, What};
 use afr_object::{IndexList, List, View};
 use std::alloc::Global;
@@ -22,8 +23,8 @@ pub struct Store {
     pub(crate) alloc: Global,
     pub(crate) objects: Vec<Object>,
     pub(crate) places: BTreeMap<Gfid, usize>,
-    /// The places of the first opening files, which are found without a search.
-    pub(crate) opening: Vec<usize>,
+    /// The places of objects that are found without a search.
+    pub(crate) shortcuts: Shortcuts,
 }
 
 impl Model for Store {
@@ -34,7 +35,7 @@ impl Model for Store {
 
     ghost view = { λ s. record { keeps = s.keeps; objects = table s.objects.items s.places.entries } };
 
-    ghost invariant = { λ s. IsPlaced s.objects.items s.places.entries s.opening.items };
+    ghost invariant = { λ s. IsPlaced s.objects.items s.places.entries s.shortcuts };
 }
 
 impl Store {
@@ -44,13 +45,13 @@ impl Store {
     {
         let objects = Vec::new(alloc);
         let places = BTreeMap::new(alloc);
-        let opening = Vec::new(alloc);
+        let shortcuts = Shortcuts::new(alloc);
         Store {
             keeps,
             alloc,
             objects,
             places,
-            opening,
+            shortcuts,
         }
     }
 
@@ -69,9 +70,23 @@ impl Store {
     pub(crate) fn get(&self, g: Gfid) -> Option<&Object>
         ensures value { option_copied result ≡ copy_at g self.now.objects }
     {
-        match place_of(&self.objects, &self.places, &self.opening, g) {
+        match place_of(&self.objects, &self.places, &self.shortcuts, g) {
             Some(place) => Some(&self.objects[place]),
             None => None,
+        }
+    }
+
+    /// What is shown of a copy, written in its place. Yes says that there is one.
+    pub(crate) fn show(&self, g: Gfid, view: &mut View) -> bool
+        ensures yes { result ≡ true → option_map view_of (copy_at g self.now.objects) ≡ Some view.new }
+        ensures no { result ≡ false → copy_at g self.now.objects ≡ None }
+    {
+        match self.get(g) {
+            Some(object) => {
+                object.show(view);
+                true
+            }
+            None => false,
         }
     }
 

@@ -36,10 +36,10 @@ one_fails (suc n) p h = go (p n) refl h (one_fails n p)
     go false e h rest = (n, omega arith, e)
     go true e h rest = let w = rest h in (w.0, omega (arith, w.1), w.2)
 
-none_of_five : (p : ℕ → Bool) → ((x : ℕ) → x < 5 → p x ≡ false) → list_any p all_five ≡ false
+pub none_of_five : (p : ℕ → Bool) → ((x : ℕ) → x < 5 → p x ≡ false) → list_any p all_five ≡ false
 none_of_five p h = rw (h 0 (omega arith), h 1 (omega arith), h 2 (omega arith), h 3 (omega arith), h 4 (omega arith)) refl
 
-no_to_false : (x : Bool) → not x ≡ true → x ≡ false
+pub no_to_false : (x : Bool) → not x ≡ true → x ≡ false
 no_to_false true h = absurd (cc h)
 no_to_false false h = refl
 

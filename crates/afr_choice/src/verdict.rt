@@ -1,5 +1,5 @@
 //! Who accuses whom, which copies are good, and what that makes of a look.
-ghost use Rattle.std.specs.Prelude.{◌≡◌, ◌+◌, ◌-◌, ◌*◌, ◌/◌, ◌<◌, ◌≤◌};
+ghost use Rattle.std.specs.Prelude.{◌≡◌, ℕ, ◌+◌, ◌-◌, ◌*◌, ◌/◌, ◌<◌, ◌≤◌, true, false};
 ghost use Rattle.afr_choice.specs.Verdict.{is_holder, is_copy, shown_missed, accuses_at, accusers_of, is_accused, is_good, holders_of, copies_of, good_copies, verdict_of};
 
 use crate::looked::{Looked, marks_shown};
@@ -43,11 +43,53 @@ pub fn holders(looked: &Looked) -> BrickSet
 pub fn good(shape: &Shape, looked: &Looked, kind: Kind) -> BrickSet
     ensures { result ≡ good_copies shape.now looked.now kind }
 {
+    let copies = copies(shape, looked, kind);
+    good_of(copies, shape, looked, kind)
+}
+
+/// The same, of these copies. Where no view accuses a brick, it is all of them, as it mostly is.
+fn good_of(copies: BrickSet, shape: &Shape, looked: &Looked, kind: Kind) -> BrickSet
+    requires { copies ≡ copies_of shape.now looked.now kind }
+    ensures { result ≡ good_copies shape.now looked.now kind }
+{
+    if accuses_nobody(looked, kind) {
+        return copies;
+    }
+    good_among(shape, looked, kind)
+}
+
+/// The same, where some view accuses a brick.
+#[inline(never)]
+fn good_among(shape: &Shape, looked: &Looked, kind: Kind) -> BrickSet
+    ensures { result ≡ good_copies shape.now looked.now kind }
+{
     let mut set = BrickSet::none();
     for b in 0..5u8 {
         set = set.with_if(is_clean(shape, looked, kind, BrickId(b)), BrickId(b));
     }
     set
+}
+
+/// Whether no view accuses a brick. No says nothing.
+fn accuses_nobody(looked: &Looked, kind: Kind) -> bool
+    ensures { result ≡ true → (c : ℕ) → c < 5 → is_accused kind looked.now c ≡ false }
+{
+    for x in 0..5u8 {
+        if accuses_some(&looked.views[x as usize], kind) {
+            return false;
+        }
+    }
+    true
+}
+
+/// Whether the view accuses a brick.
+fn accuses_some(view: &Option<View>, kind: Kind) -> bool
+    ensures { result ≡ false → (c : ℕ) → c < 5 → shown_missed kind c view.now ≡ false }
+{
+    match view {
+        Some(view) => !marks_shown(view, kind).accuses_nobody(),
+        None => false,
+    }
 }
 
 /// What the copies of this kind come to.
@@ -58,10 +100,11 @@ pub fn judge(shape: &Shape, looked: &Looked, kind: Kind) -> Verdict
     if !looked.reached.has_quorum(shape.n) {
         return Verdict::Short;
     }
-    if copies(shape, looked, kind).is_empty() {
+    let copies = copies(shape, looked, kind);
+    if copies.is_empty() {
         return Verdict::Bare;
     }
-    let sources = good(shape, looked, kind);
+    let sources = good_of(copies, shape, looked, kind);
     if sources.is_empty() {
         return Verdict::Split;
     }

@@ -15,10 +15,10 @@ pub on_err : {T E P : Type 0} (r : Result T E) → P → OnErr r P
 on_err (Ok x) p = tt
 on_err (Err e) p = p
 
--- A write, for which the pages took memory first.
-module _ (len : ℕ) (old ready new : ℕ → List ℕ) (file : IsFile len old) (at : ℕ) (bytes : List ℕ) (few : at + length bytes ≤ 1048576) (room : (q : ℕ) → ready q ≡ old q) (done : (q : ℕ) → new q ≡ overlaid at bytes ready q) where
+-- A write.
+module _ (len : ℕ) (old new : ℕ → List ℕ) (file : IsFile len old) (at : ℕ) (bytes : List ℕ) (few : at + length bytes ≤ 1048576) (done : (q : ℕ) → new q ≡ overlaid at bytes old q) where
   pages_after_write : new ≡ overlaid at bytes old
-  pages_after_write = (λ i q. done q i) ∙ ap (overlaid at bytes) (λ i q. room q i)
+  pages_after_write = λ i q. done q i
 
   pub file_after_write : IsFile (max len (at + length bytes)) new
   file_after_write = IsFile-same (max len (at + length bytes)) (overlaid at bytes old) new pages_after_write (IsFile-written len old file at bytes few)

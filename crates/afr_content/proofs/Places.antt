@@ -1,8 +1,8 @@
 -- Which byte stands at a place of a file after each call, by what its pages keep.
-use Rattle.std.proofs.Common.{◌≡◌, ℕ, ◌+◌, ◌-◌, ◌*◌, ◌/◌, ◌%◌, ◌<◌, ◌≤◌, true, false, List, [], ◌++◌, length, get_or, take, drop, refl, ap, sym, ◌∙◌, ◌⊎◌, inl, inr, arith, ltb, if◌then◌else◌}
+use Rattle.std.proofs.Common.{◌≡◌, ℕ, ◌+◌, ◌-◌, ◌*◌, ◌/◌, ◌%◌, ◌<◌, ◌≤◌, true, false, List, [], length, get_or, take, drop, refl, ap, sym, ◌∙◌, ◌⊎◌, inl, inr, arith, ltb, if◌then◌else◌}
 use Rattle.std.proofs.lemmas.Bool.{cases_lt, cases_eq, lt-ltb, le-ltb}
 use Rattle.std.proofs.lemmas.List.{length-take, length-drop, get_or-take, get_or-drop, get_or_past, ext_get_or, take_all}
-use Rattle.afr_object.specs.Bytes.{zeroed, byte_at, is_within}
+use Rattle.afr_object.specs.Bytes.{written, zeroed, byte_at, is_within}
 use Rattle.afr_object.specs.BytesLemmas.{byte_at-written_inside, byte_at-written_before, byte_at-written_after, byte_at-zeroed_inside, byte_at-zeroed_before, byte_at-zeroed_after, length-zeroed, is_within_tells}
 use Rattle.afr_content.specs.Kept.{byte_in, start_in, end_in, part, overlaid, cleared, shortened}
 
@@ -17,6 +17,20 @@ byte_at-part k at bytes q h = get_or-take ((end_in (at + length bytes) q - at) -
 -- A page that a write doesn't reach keeps what it kept.
 pub overlaid_none : (at : ℕ) (bytes : List ℕ) (pages : ℕ → List ℕ) (q : ℕ) → end_in (at + length bytes) q ≤ start_in at q → overlaid at bytes pages q ≡ pages q
 overlaid_none at bytes pages q h = let none : (end_in (at + length bytes) q - at) - (start_in at q - at) ≡ 0 = omega arith in rw none refl
+
+-- A write that ends in the page where it begins is written there as it is.
+pub overlaid_one : (at : ℕ) (bytes : List ℕ) (pages : ℕ → List ℕ) → at % 4096 + length bytes ≤ 4096 → overlaid at bytes pages (at / 4096) ≡ written (at % 4096) bytes (pages (at / 4096))
+overlaid_one at bytes pages few =
+    let from : start_in at (at / 4096) ≡ at = omega arith in
+    let to : end_in (at + length bytes) (at / 4096) ≡ at + length bytes = omega arith in
+    let begin : at - (at / 4096) * 4096 ≡ at % 4096 = omega arith in
+    let none : at - at ≡ 0 = omega arith in
+    let all : at + length bytes - at - 0 ≡ length bytes = omega arith in
+    rw (from, to, begin, none, all, take_all (length bytes) bytes (omega arith)) refl
+
+-- It reaches no other page.
+pub overlaid_other : (at : ℕ) (bytes : List ℕ) (pages : ℕ → List ℕ) (q : ℕ) → at % 4096 + length bytes ≤ 4096 → (q ≡ at / 4096 → ⊥) → overlaid at bytes pages q ≡ pages q
+overlaid_other at bytes pages q few other = overlaid_none at bytes pages q (omega arith)
 
 -- After a write each byte of its range is one of its bytes, and each other byte is what it was.
 pub byte_in-overlaid : (at : ℕ) (bytes : List ℕ) (pages : ℕ → List ℕ) (i : ℕ) → byte_in (overlaid at bytes pages) i ≡ if is_within at (length bytes) i then byte_at (i - at) bytes else byte_in pages i

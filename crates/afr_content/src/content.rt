@@ -90,8 +90,7 @@ impl Content {
         if bytes.is_empty() {
             return Ok(());
         }
-        pages::take_room(&mut self.pages, self.alloc, at as usize, bytes.len())?;
-        pages::write(&mut self.pages, at as usize, bytes);
+        pages::overlay(&mut self.pages, self.alloc, at as usize, bytes)?;
         self.len = self.len.max(at + bytes.len() as u32);
         Ok(())
     }

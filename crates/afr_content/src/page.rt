@@ -1,5 +1,5 @@
 //! One page of a file, which takes memory for its bytes as they are written.
-ghost use Rattle.std.specs.Prelude.{◌≡◌, ℕ, [], ◌+◌, ◌<◌, ◌≤◌, length, nat_lt, take, OnOk, slice_index};
+ghost use Rattle.std.specs.Prelude.{◌≡◌, ℕ, [], ◌+◌, ◌<◌, ◌≤◌, true, false, length, nat_lt, take, OnOk, slice_index};
 ghost use Rattle.afr_object.specs.Bytes.{byte_at, written, zeroed};
 
 use crate::bytes::{put, show, zero};
@@ -49,6 +49,19 @@ impl Page {
             self.bytes.try_reserve_exact(room - len)?;
         }
         Ok(())
+    }
+
+    /// Writes the bytes, if there is memory for them.
+    pub(crate) fn write_in_room(&mut self, at: usize, bytes: &[u8]) -> bool
+        requires { at + length bytes.now ≤ 4096 }
+        ensures yes { result ≡ true → self.new.bytes ≡ written at bytes.now self.old.bytes }
+        ensures no { result ≡ false → self.new.bytes ≡ self.old.bytes }
+    {
+        if at + bytes.len() > self.bytes.capacity() {
+            return false;
+        }
+        put(&mut self.bytes, at, bytes);
+        true
     }
 
     pub(crate) fn write(&mut self, at: usize, bytes: &[u8])

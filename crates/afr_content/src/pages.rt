@@ -1,5 +1,5 @@
 //! The pages of a file by their numbers. One that isn't in the map, or keeps no byte, is all zeros.
-ghost use Rattle.std.specs.Prelude.{◌≡◌, ◌≢◌, ℕ, ◌+◌, ◌-◌, ◌*◌, ◌/◌, ◌<◌, ◌≤◌, [], length, min, slice_index, take, IfNone, IfSome, IsSome, OnOk};
+ghost use Rattle.std.specs.Prelude.{◌≡◌, ◌≢◌, ℕ, ◌+◌, ◌-◌, ◌*◌, ◌/◌, ◌<◌, ◌≤◌, [], true, false, length, min, slice_index, take, IfNone, IfSome, IsSome, OnErr, OnOk};
 ghost use Rattle.std.specs.BTreeMap.{get};
 ghost use Rattle.std.specs.Ordering.{nat_cmp};
 ghost use Rattle.afr_object.specs.Bytes.{written, zeroed, byte_at};
@@ -30,14 +30,63 @@ pub(crate) fn has(pages: &Pages, number: u32) -> bool
     }
 }
 
-/// Takes memory for all pages of a span, so that a write of it can't fail. No page keeps another
-/// byte for it.
-pub(crate) fn take_room(
+/// Writes the bytes at an offset. Bytes of one page that is there and has memory for them take one search.
+pub(crate) fn overlay(
     pages: &mut Pages,
     alloc: Global,
     at: usize,
-    len: usize,
+    bytes: &[u8],
 ) -> Result<(), NoMemory>
+    requires { at + length bytes.now ≤ 1048576 }
+    ensures ok { OnOk result ((q : ℕ) → kept pages.new.entries q ≡ overlaid at bytes.now (kept pages.old.entries) q) }
+    ensures err { OnErr result ((q : ℕ) → kept pages.new.entries q ≡ kept pages.old.entries q) }
+{
+    if write_there(pages, at, bytes) {
+        return Ok(());
+    }
+    write_anew(pages, alloc, at, bytes)
+}
+
+/// Writes bytes of one page, if it is there and has memory for them.
+fn write_there(pages: &mut Pages, at: usize, bytes: &[u8]) -> bool
+    requires { at + length bytes.now ≤ 1048576 }
+    ensures yes { result ≡ true → (q : ℕ) → kept pages.new.entries q ≡ overlaid at bytes.now (kept pages.old.entries) q }
+    ensures no { result ≡ false → (q : ℕ) → kept pages.new.entries q ≡ kept pages.old.entries q }
+{
+    let from = at % PAGE;
+    if from + bytes.len() > PAGE {
+        return false;
+    }
+    write_in_room(pages, (at / PAGE) as u32, from, bytes)
+}
+
+fn write_in_room(pages: &mut Pages, number: u32, at: usize, bytes: &[u8]) -> bool
+    requires { at + length bytes.now ≤ 4096 }
+    ensures yes { result ≡ true → kept pages.new.entries number ≡ written at bytes.now (kept pages.old.entries number) }
+    ensures no { result ≡ false → kept pages.new.entries number ≡ kept pages.old.entries number }
+    ensures others { (q : ℕ) → q ≢ number → kept pages.new.entries q ≡ kept pages.old.entries q }
+{
+    match pages.get_mut(&number) {
+        Some(page) => page.write_in_room(at, bytes),
+        None => false,
+    }
+}
+
+/// Takes memory for the bytes, and writes them.
+#[inline(never)]
+fn write_anew(pages: &mut Pages, alloc: Global, at: usize, bytes: &[u8]) -> Result<(), NoMemory>
+    requires { at + length bytes.now ≤ 1048576 }
+    ensures ok { OnOk result ((q : ℕ) → kept pages.new.entries q ≡ overlaid at bytes.now (kept pages.old.entries) q) }
+    ensures err { OnErr result ((q : ℕ) → kept pages.new.entries q ≡ kept pages.old.entries q) }
+{
+    take_room(pages, alloc, at, bytes.len())?;
+    write(pages, at, bytes);
+    Ok(())
+}
+
+/// Takes memory for all pages of a span, so that a write of it can't fail. No page keeps another
+/// byte for it.
+fn take_room(pages: &mut Pages, alloc: Global, at: usize, len: usize) -> Result<(), NoMemory>
     requires { at + len ≤ 1048576 }
     ensures bytes { (q : ℕ) → kept pages.new.entries q ≡ kept pages.old.entries q }
     ensures ok { OnOk result ((q : ℕ) → at / 4096 ≤ q → min (at + len - q * 4096) 4096 ≤ room_at pages.new.entries q) }
@@ -76,7 +125,7 @@ fn reserve(pages: &mut Pages, number: u32, need: usize) -> Result<(), NoMemory>
 }
 
 /// Writes the bytes at an offset, into pages that have memory for them.
-pub(crate) fn write(pages: &mut Pages, at: usize, bytes: &[u8])
+fn write(pages: &mut Pages, at: usize, bytes: &[u8])
     requires end { at + length bytes.now ≤ 1048576 }
     requires room { (q : ℕ) → at / 4096 ≤ q → min (at + length bytes.now - q * 4096) 4096 ≤ room_at pages.old.entries q }
     ensures { (q : ℕ) → kept pages.new.entries q ≡ overlaid at bytes.now (kept pages.old.entries) q }

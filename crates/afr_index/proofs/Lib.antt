@@ -1,1 +1,2 @@
-pub mod KindLemmas
+pub mod RowLemmas
+pub mod SpotLemmas

@@ -1,10 +1,11 @@
-//! An ordered map from gfid to kind of object.
+//! An ordered map from gfid to kind of object, and a row of the objects that were listed last.
 ghost use Rattle.std.specs.Prelude.{◌≡◌, [], OnOk, OnErr, IfOk};
 ghost use Rattle.std.specs.BTreeMap.{is_at, insert_entry};
 ghost use Rattle.std.specs.Map.{remove_entry};
 ghost use Rattle.afr_object.specs.Tables.{gfid_cmp};
 ghost use Rattle.afr_index.specs.Listed.{IsRising, Lists, Drops};
 
+use crate::late::{drop_late, entries_of, make_place, put_in, take_out};
 use afr_base::{Gfid, NoMemory, What};
 use afr_object::{IndexList, List};
 use std::alloc::Global;
@@ -17,14 +18,16 @@ use std::marker::Model;
 pub struct Index {
     alloc: Global,
     kinds: BTreeMap<Gfid, What>,
+    /// The objects that were listed last, in that order, whatever the map has of them: most are taken away soon.
+    late: Vec<(Gfid, What)>,
 }
 
 impl Model for Index {
-    ghost use Rattle.afr_index.specs.Listed.{Listed, IsRising};
+    ghost use Rattle.afr_index.specs.Listed.{Listed, IsRising, with_all};
 
     ghost Value = { Listed };
 
-    ghost view = { λ i. i.kinds.entries };
+    ghost view = { λ i. with_all i.late.items i.kinds.entries };
 
     ghost invariant = { λ i. IsRising i.kinds.entries };
 }
@@ -36,6 +39,7 @@ impl Index {
         Index {
             alloc,
             kinds: BTreeMap::new(alloc),
+            late: Vec::new(alloc),
         }
     }
 
@@ -45,7 +49,8 @@ impl Index {
         ensures listed { OnOk result (Lists g what self.old self.new) }
         ensures err { OnErr result (self.new ≡ self.old) }
     {
-        self.kinds.insert(g, what)?;
+        make_place(&mut self.kinds, &mut self.late)?;
+        self.late.push((g, what))?;
         Ok(())
     }
 
@@ -54,7 +59,8 @@ impl Index {
         ensures same { self.new ≡ remove_entry (is_at (gfid_cmp g)) self.old }
         ensures dropped { Drops g self.old self.new }
     {
-        self.kinds.remove(&g);
+        drop_late(&mut self.late, g);
+        take_out(&mut self.kinds, g);
     }
 
     /// All objects in rising gfid, in O(n).
@@ -62,10 +68,10 @@ impl Index {
         ensures ok { IfOk result (λ list. list ≡ self.now) }
         ensures rising { IsRising self.now }
     {
-        let mut list = List::new(self.alloc);
-        for (g, what) in self.kinds.iter() {
-            list.push((*g, *what))?;
+        let mut list = entries_of(self.alloc, &self.kinds)?;
+        for entry in self.late.as_slice() {
+            put_in(&mut list, entry.0, entry.1)?;
         }
-        Ok(list)
+        Ok(List::from_vec(list))
     }
 }

@@ -2,5 +2,6 @@
 #![tactic(auto)]
 
 mod index;
+mod late;
 
 pub use index::Index;

@@ -91,7 +91,8 @@ fn pack_kind(actor: ActorId, brick: BrickId, id: Id, view: &View, kind: Kind) ->
     }
 }
 
-/// A file's numbers of both its kinds, where they are small.
+/// A file's numbers of both its kinds, where they are small. It stands apart, since most looks show numbers of one kind.
+#[inline(never)]
 fn pack_file(actor: ActorId, brick: BrickId, id: Id, view: &View) -> Option<Packed>
     requires { view.now.what ≡ What.File }
     ensures line { (entry : Packed) → result ≡ Some entry → (kept : List Line) → line_of kept entry ≡ Ask actor brick (Look (gfid_in id)) (Seen view.now) true }
@@ -113,6 +114,7 @@ fn pack_file(actor: ActorId, brick: BrickId, id: Id, view: &View) -> Option<Pack
 }
 
 /// The same of a directory.
+#[inline(never)]
 fn pack_dir(actor: ActorId, brick: BrickId, id: Id, view: &View) -> Option<Packed>
     requires { view.now.what ≡ What.Dir }
     ensures line { (entry : Packed) → result ≡ Some entry → (kept : List Line) → line_of kept entry ≡ Ask actor brick (Look (gfid_in id)) (Seen view.now) true }

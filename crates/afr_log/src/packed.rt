@@ -229,7 +229,7 @@ pub(crate) fn short_of(answer: &Answer) -> Option<Short>
 fn clean(view: &View) -> Option<Short>
     ensures { IfSome result (λ short. told_in short ≡ Seen view.now) }
 {
-    if view.marks != AllMarks::zero() {
+    if !view.marks.is_zero() {
         return None;
     }
     match view.what {

@@ -1,8 +1,8 @@
 //! What a brick answers a request that changes nothing, written in its place.
-ghost use Rattle.std.specs.Prelude.{◌≡◌, OnOk, None, []};
+ghost use Rattle.std.specs.Prelude.{◌≡◌, OnOk, None, [], true};
 ghost use Rattle.afr_model.specs.Honest.{answer_by};
 
-use crate::said::{say_absent, show};
+use crate::said::say_absent;
 use afr_base::{Gfid, KeyId, NameId, NoMemory};
 use afr_brick::{Brick, Refused};
 use afr_lines::{Answer, Request};
@@ -10,8 +10,29 @@ use afr_lines::{Answer, Request};
 pub(crate) fn look(brick: &Brick, gfid: Gfid, answer: &mut Answer)
     ensures { answer.new ≡ answer_by None (Request.Look gfid) brick.now.objects [] }
 {
+    if shows(brick, gfid, answer) {
+        return;
+    }
+    look_anew(brick, gfid, answer);
+}
+
+/// Writes what the brick shows over what the last look showed, if there are both. No says nothing.
+fn shows(brick: &Brick, gfid: Gfid, answer: &mut Answer) -> bool
+    ensures { result ≡ true → answer.new ≡ answer_by None (Request.Look gfid) brick.now.objects [] }
+{
+    match answer {
+        Answer::Seen(view) => brick.show(gfid, view),
+        _ => false,
+    }
+}
+
+/// A look after another kind of answer, or at what isn't there.
+#[inline(never)]
+fn look_anew(brick: &Brick, gfid: Gfid, answer: &mut Answer)
+    ensures { answer.new ≡ answer_by None (Request.Look gfid) brick.now.objects [] }
+{
     match brick.look(gfid) {
-        Some(view) => show(answer, view),
+        Some(view) => *answer = Answer::Seen(view),
         None => say_absent(answer),
     }
 }

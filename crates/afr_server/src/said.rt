@@ -1,11 +1,10 @@
-//! Answers that hold nothing, a holder or a view, written in their place. Most requests are given an answer of the same kind as
+//! Answers that hold nothing or a holder, written in their place. Most requests are given an answer of the same kind as
 //! the one before them. Where the kind is another, the answer is replaced by a function that stands apart: only then is there a
 //! frame that holds answers.
 ghost use Rattle.std.specs.Prelude.{◌≡◌};
 
 use afr_base::ActorId;
 use afr_lines::Answer;
-use afr_object::View;
 
 pub(crate) fn say_done(answer: &mut Answer)
     ensures { answer.new ≡ Answer.Done }
@@ -69,20 +68,4 @@ fn put_absent(answer: &mut Answer)
     ensures { answer.new ≡ Answer.NoObject }
 {
     *answer = Answer::NoObject;
-}
-
-pub(crate) fn show(answer: &mut Answer, view: View)
-    ensures { answer.new ≡ Answer.Seen view }
-{
-    match answer {
-        Answer::Seen(shown) => *shown = view,
-        _ => put_seen(answer, view),
-    }
-}
-
-#[inline(never)]
-fn put_seen(answer: &mut Answer, view: View)
-    ensures { answer.new ≡ Answer.Seen view }
-{
-    *answer = Answer::Seen(view);
 }

@@ -8,10 +8,10 @@ use Rattle.afr_brick.proofs.PlacesLemmas.{copy_read, copy_written}
 use Rattle.afr_brick.proofs.store.Store.remove.Goals as goal
 
 pub returns-clause-ok : goal.returns-clause-ok
-returns-clause-ok c = rw (← c.self.view_is) (ap (copies c.self.inside.keeps) (copy_written (with_names (remove_entry (is_at (name_cmp c.args.name)))) c.args.dir c.index_mut-object.result.now c.drop_name.new.self c.self.inside.objects.items c.self.inside.places.entries c.self.inside.opening.items c.in-Some.place c.in-Some.ensures c.index_mut-object.ensures.value c.drop_name.ensures))
+returns-clause-ok c = rw (← c.self.view_is) (ap (copies c.self.inside.keeps) (copy_written (with_names (remove_entry (is_at (name_cmp c.args.name)))) c.args.dir c.index_mut-object.result.now c.drop_name.new.self c.self.inside.objects.items c.self.inside.places.entries c.self.inside.shortcuts c.in-Some.place c.in-Some.ensures c.index_mut-object.ensures.value c.drop_name.ensures))
 
 pub returns-clause-absent : goal.returns-clause-absent
-returns-clause-absent c = rw (← c.self.view_is) (found _ _ c.index_mut-object.result.now (copy_read c.args.dir c.index_mut-object.result.now c.self.inside.objects.items c.self.inside.places.entries c.self.inside.opening.items c.in-Some.place c.in-Some.ensures c.index_mut-object.ensures.value) (λ h. cc))
+returns-clause-absent c = rw (← c.self.view_is) (found _ _ c.index_mut-object.result.now (copy_read c.args.dir c.index_mut-object.result.now c.self.inside.objects.items c.self.inside.places.entries c.self.inside.shortcuts c.in-Some.place c.in-Some.ensures c.index_mut-object.ensures.value) (λ h. cc))
 
 pub invariant_of-self : goal.invariant_of-self
 invariant_of-self c = c.in-Some.ensures.kept c.drop_name.new.self

@@ -10,27 +10,27 @@ use Rattle.afr_brick.proofs.PlacesLemmas.{copy_read, copy_written}
 use Rattle.afr_brick.proofs.store.Store.settle.Goals as goal
 
 pub returns-clause-ok : goal.returns-clause-ok
-returns-clause-ok c = rw (← c.self.view_is) (ap (copies c.self.inside.keeps) (copy_written (with_numbers c.args.kind (taken_back c.args.less.now)) c.args.g c.index_mut-object.result.now c.settle.new.self c.self.inside.objects.items c.self.inside.places.entries c.self.inside.opening.items c.in-Some.place c.in-Some.ensures c.index_mut-object.ensures.value c.settle.ensures))
+returns-clause-ok c = rw (← c.self.view_is) (ap (copies c.self.inside.keeps) (copy_written (with_numbers c.args.kind (taken_back c.args.less.now)) c.args.g c.index_mut-object.result.now c.settle.new.self c.self.inside.objects.items c.self.inside.places.entries c.self.inside.shortcuts c.in-Some.place c.in-Some.ensures c.index_mut-object.ensures.value c.settle.ensures))
 
 pub returns-clause-absent : goal.returns-clause-absent
-returns-clause-absent c = rw (← c.self.view_is) (found _ _ c.index_mut-object.result.now (copy_read c.args.g c.index_mut-object.result.now c.self.inside.objects.items c.self.inside.places.entries c.self.inside.opening.items c.in-Some.place c.in-Some.ensures c.index_mut-object.ensures.value) (λ h. cc))
+returns-clause-absent c = rw (← c.self.view_is) (found _ _ c.index_mut-object.result.now (copy_read c.args.g c.index_mut-object.result.now c.self.inside.objects.items c.self.inside.places.entries c.self.inside.shortcuts c.in-Some.place c.in-Some.ensures c.index_mut-object.ensures.value) (λ h. cc))
 
 pub settle-requires-clause-dirty : goal.settle-requires-clause-dirty
 settle-requires-clause-dirty c =
-    let e : copy_at c.args.g c.args.self.now.objects ≡ Some c.index_mut-object.result.now = rw (← c.self.view_is) (copy_read c.args.g c.index_mut-object.result.now c.self.inside.objects.items c.self.inside.places.entries c.self.inside.opening.items c.in-Some.place c.in-Some.ensures c.index_mut-object.ensures.value) in
+    let e : copy_at c.args.g c.args.self.now.objects ≡ Some c.index_mut-object.result.now = rw (← c.self.view_is) (copy_read c.args.g c.index_mut-object.result.now c.self.inside.objects.items c.self.inside.places.entries c.self.inside.shortcuts c.in-Some.place c.in-Some.ensures c.index_mut-object.ensures.value) in
     let r = rw e at c.requires in
     r.0
 
 pub settle-requires-clause-pending : goal.settle-requires-clause-pending
 settle-requires-clause-pending c =
-    let e : copy_at c.args.g c.args.self.now.objects ≡ Some c.index_mut-object.result.now = rw (← c.self.view_is) (copy_read c.args.g c.index_mut-object.result.now c.self.inside.objects.items c.self.inside.places.entries c.self.inside.opening.items c.in-Some.place c.in-Some.ensures c.index_mut-object.ensures.value) in
+    let e : copy_at c.args.g c.args.self.now.objects ≡ Some c.index_mut-object.result.now = rw (← c.self.view_is) (copy_read c.args.g c.index_mut-object.result.now c.self.inside.objects.items c.self.inside.places.entries c.self.inside.shortcuts c.in-Some.place c.in-Some.ensures c.index_mut-object.ensures.value) in
     let r = rw e at c.requires in
     r.1
 
 pub returns-clause-index : goal.returns-clause-index
 returns-clause-index c = rw (← c.self.view_is)
     (λ yes. ap index_of (c.in-Some.ensures.written c.settle.new.self)
-    ∙ index_of-with_copy c.args.g c.settle.new.self c.index_mut-object.result.now _ (copy_read c.args.g c.index_mut-object.result.now c.self.inside.objects.items c.self.inside.places.entries c.self.inside.opening.items c.in-Some.place c.in-Some.ensures c.index_mut-object.ensures.value) (c.stays.ensures yes ∙ c.is_clean-was.ensures) (ap (λ (o : Object). o.what) c.settle.ensures))
+    ∙ index_of-with_copy c.args.g c.settle.new.self c.index_mut-object.result.now _ (copy_read c.args.g c.index_mut-object.result.now c.self.inside.objects.items c.self.inside.places.entries c.self.inside.shortcuts c.in-Some.place c.in-Some.ensures c.index_mut-object.ensures.value) (c.stays.ensures yes ∙ c.is_clean-was.ensures) (ap (λ (o : Object). o.what) c.settle.ensures))
 
 pub invariant_of-self : goal.invariant_of-self
 invariant_of-self c = c.in-Some.ensures.kept c.settle.new.self

@@ -1,6 +1,7 @@
-use Rattle.std.proofs.Common.{◌≡◌, map}
-use Rattle.std.specs.Map.Iter.{deref_pair}
+-- So many of the row are put in.
+use Rattle.std.proofs.Common.{◌≡◌, take}
+use Rattle.afr_index.specs.Listed.{with_all}
 use Rattle.afr_index.proofs.index.Index.list.Given as goal
 
-abbrev pub invariant-loop-g : goal.invariant-loop-g
-invariant-loop-g l = l.list ≡ map deref_pair l.yielded
+abbrev pub invariant-loop-entry : goal.invariant-loop-entry
+invariant-loop-entry l = l.list.items ≡ with_all (take l.entry-index l.entry-items) l.initial.list.items

@@ -1,7 +1,7 @@
 use Rattle.std.proofs.Common.{arith}
 use Rattle.afr_choice.specs.Verdict.{is_good}
 use Rattle.afr_base.proofs.OfFive.{gathered}
-use Rattle.afr_choice.proofs.verdict.good.Goals as goal
+use Rattle.afr_choice.proofs.verdict.good_among.Goals as goal
 
 pub loop-b-preserved : goal.loop-b-preserved
 loop-b-preserved c =

@@ -1,0 +1,27 @@
+-- Five numbers are all zero exactly where all their bits are.
+use Rattle.std.proofs.Common.{◌≡◌, ℕ, zero, suc, ◌&&◌, ◌==◌, Bool, true, false, List, [], ◌∷◌, length, get_or, bit_or, refl, arith}
+use Rattle.std.specs.List.{list_all}
+use Rattle.std.proofs.lemmas.Bool.Decides.{nat_tests}
+use Rattle.std.proofs.lemmas.Nat.{le_or_l}
+
+two_zero : (a b : ℕ) → (bit_or a b == 0) ≡ ((a == 0) && (b == 0))
+two_zero zero b = refl
+two_zero (suc a) b = grind (arith, nat_tests, le_or_l (suc a) b)
+
+regrouped : (a b c d e : Bool) → ((((a && b) && c) && d) && e) ≡ (a && (b && (c && (d && (e && true)))))
+regrouped false b c d e = refl
+regrouped true false c d e = refl
+regrouped true true false d e = refl
+regrouped true true true false e = refl
+regrouped true true true true false = refl
+regrouped true true true true true = refl
+
+pub five_zero : (xs : List ℕ) → length xs ≡ 5
+    → (bit_or (bit_or (bit_or (bit_or (get_or xs 0 0) (get_or xs 1 0)) (get_or xs 2 0)) (get_or xs 3 0)) (get_or xs 4 0) == 0) ≡ list_all (λ n. n == 0) xs
+five_zero (a ∷ b ∷ c ∷ d ∷ e ∷ []) h = simp two_zero (regrouped (a == 0) (b == 0) (c == 0) (d == 0) (e == 0))
+five_zero [] h = absurd (omega arith)
+five_zero (a ∷ []) h = absurd (omega arith)
+five_zero (a ∷ b ∷ []) h = absurd (omega arith)
+five_zero (a ∷ b ∷ c ∷ []) h = absurd (omega arith)
+five_zero (a ∷ b ∷ c ∷ d ∷ []) h = absurd (omega arith)
+five_zero (a ∷ b ∷ c ∷ d ∷ e ∷ f ∷ xs) h = absurd (omega arith)
