@@ -135,6 +135,12 @@ fn digits(bytes: &[u8]) -> usize
     bytes.iter().take_while(|b| is_digit(**b)).count()
 }
 
+fn path_run(bytes: &[u8]) -> usize
+    ensures { result ≡ length (take_while path_byte bytes.now) }
+{
+    bytes.iter().take_while(|b| is_path_byte(**b)).count()
+}
+
 pub(crate) fn path_len(bytes: &[u8]) -> usize
     ensures { result ≡ length (take_while path_byte bytes.now) }
 {
@@ -142,7 +148,7 @@ pub(crate) fn path_len(bytes: &[u8]) -> usize
     while bytes.len() - count >= STEP && are_path_bytes(&bytes[count..count + STEP]) {
         count += STEP;
     }
-    count + bytes[count..].iter().take_while(|b| is_path_byte(**b)).count()
+    count + path_run(&bytes[count..])
 }
 
 fn key_len(bytes: &[u8]) -> usize
