@@ -66,26 +66,6 @@ nobody_accuses shape looked kind b x m l =
     (and_right (is_copy shape looked kind b) (not (is_accused kind looked b)) (chosen_passes (is_good shape looked kind) b m))
     (from_table 5 (member all_five) refl x l)
 
--- what each verdict says
-pub short_says : (shape : Shape) (looked : Looked) (kind : Kind) → verdict_of shape looked kind ≡ Short → is_majority shape.n looked.reached ≡ false
-short_says shape looked kind = go (is_majority shape.n looked.reached) (is_nothing (copies_of shape looked kind)) (is_nothing (good_copies shape looked kind)) (good_copies shape looked kind)
-  where
-    go : (a b c : Bool) (s : List ℕ) → (if not a then Short else (if b then Bare else (if c then Split else Sources s))) ≡ Short → a ≡ false
-    go false b c s h = refl
-    go true true c s h = absurd (cc h)
-    go true false true s h = absurd (cc h)
-    go true false false s h = absurd (cc h)
-
-pub bare_says : (shape : Shape) (looked : Looked) (kind : Kind) → verdict_of shape looked kind ≡ Bare
-    → (is_majority shape.n looked.reached ≡ true) × (is_nothing (copies_of shape looked kind) ≡ true)
-bare_says shape looked kind = go (is_majority shape.n looked.reached) (is_nothing (copies_of shape looked kind)) (is_nothing (good_copies shape looked kind)) (good_copies shape looked kind)
-  where
-    go : (a b c : Bool) (s : List ℕ) → (if not a then Short else (if b then Bare else (if c then Split else Sources s))) ≡ Bare → (a ≡ true) × (b ≡ true)
-    go false b c s h = absurd (cc h)
-    go true true c s h = (refl, refl)
-    go true false true s h = absurd (cc h)
-    go true false false s h = absurd (cc h)
-
 pub split_says : (shape : Shape) (looked : Looked) (kind : Kind) → verdict_of shape looked kind ≡ Split
     → (is_majority shape.n looked.reached ≡ true) × (is_nothing (copies_of shape looked kind) ≡ false) × (is_nothing (good_copies shape looked kind) ≡ true)
 split_says shape looked kind = go (is_majority shape.n looked.reached) (is_nothing (copies_of shape looked kind)) (is_nothing (good_copies shape looked kind)) (good_copies shape looked kind)

@@ -24,7 +24,7 @@ use Rattle.afr_rule.specs.Choosing.{Calls}
 use Rattle.afr_client_walk.specs.Choosing.{IsAmong, RuleAnswers, choices, choices_after, reader_of}
 use Rattle.afr_discipline.specs.Free.{Allows, is_free}
 use Rattle.afr_client_walk.specs.Looks.{no_look, left_to_look, heard_look}
-use Rattle.afr_client_walk.specs.Walk.{is_walking, next_in, noted, walked, IsWalk}
+use Rattle.afr_client_walk.specs.Walk.{next_in, noted, walked, IsWalk}
 use Rattle.afr_client_walk.specs.declared.looks.Looks.{Looks}
 use Rattle.afr_client_walk.specs.declared.walk.Walk.{Walk}
 use Rattle.afr_client_walk.specs.declared.walk.WalkStep.{WalkStep}
@@ -65,13 +65,6 @@ is_after_walk job w k = record { sound = k; ready = go w.step }
     go (walking.Naming b) = refl
     go walking.Arrived = is_at_object w.shape.n walking.Arrived job w.object.what k.some
     go (walking.Stopped why) = tt
-
--- while the walk goes on, the read waits
-pub waits : (step : WalkStep) (job : LookupJob) (w : Walk) → is_walking step ≡ true → after_step step job w ≡ Walking
-waits (walking.Looking s) job w h = refl
-waits (walking.Naming b) job w h = refl
-waits walking.Arrived job w h = absurd (cc h)
-waits (walking.Stopped why) job w h = absurd (cc h)
 
 is_from_copy : (n : ℕ) (step : WalkStep) (job : LookupJob) (object : Entry) (looked : Looked) (b : BrickId) → b.0 < n → IsStage n step (from_copy job object looked b)
 is_from_copy n step (Read at len) object looked b l = go (len == 0)

@@ -30,7 +30,7 @@ use Rattle.afr_discipline.specs.Stands.{no_lines, step_of, views_of}
 use Rattle.afr_client_transaction.specs.declared.stage.Stage.{Stage}
 use Rattle.afr_client_transaction.specs.declared.stage.Stage.TheVariants.{Locking, Looking, Beginning, Preparing, Applying, Posting, Closing}
 use Rattle.afr_client_transaction.specs.Outcome.{reply_of}
-use Rattle.afr_client_transaction.specs.Progress.{TransactionProgress, left, request_at, gone_on, after, answered, asked_by, asks, next_at, sets_after, on_stage, starting, begun, enough, fed, is_beginning, is_over, may_start, number_in, numbered}
+use Rattle.afr_client_transaction.specs.Progress.{TransactionProgress, left, request_at, gone_on, after, answered, asked_by, asks, next_at, sets_after, on_stage, starting, begun, enough, fed, is_over, may_start, number_in}
 use Rattle.afr_client_transaction.specs.Laws.{StaysSound}
 use Rattle.afr_client_transaction.specs.declared.stage.LocksAndLooks.{LocksAndLooks}
 use Rattle.afr_client_transaction.specs.Sound.{Posted, IsBase, IsUnused, Suits, HasBegun, During, IsAsking, Ready, Sound}
@@ -288,27 +288,6 @@ some_left Preparing at m some = refl
 some_left Applying at m some = refl
 some_left Posting at m some = refl
 some_left Closing at m some = rw some refl
-
--- where nobody is left, the next line is a Begin or an End line
-pub none_left : (stage : Stage) (m : TransactionProgress) → Ready stage m → is_nothing (left stage m) ≡ true → (is_beginning stage || is_over stage m) ≡ true
-none_left Locking m ready none = absurd (cc (ready, none))
-none_left Looking m ready none = absurd (cc (ready, none))
-none_left Beginning m ready none = refl
-none_left Preparing m ready none = absurd (cc (ready, none))
-none_left Applying m ready none = absurd (cc (ready, none))
-none_left Posting m ready none = absurd (cc (ready, none))
-none_left Closing m ready none = none
-
--- what holds of each Begin and of each End line holds of such a line
-pub no_request : (P : Next → Type 0) → ((change : Change) → P (next.Begin change)) → ((said : Reply) → P (next.End said)) → (stage : Stage) (at : ℕ) (m : TransactionProgress) → (is_beginning stage || is_over stage m) ≡ true
-    → P (next_at stage at m)
-no_request P begins ends Locking at m h = absurd (cc h)
-no_request P begins ends Looking at m h = absurd (cc h)
-no_request P begins ends Beginning at m h = begins (numbered at m.change)
-no_request P begins ends Preparing at m h = absurd (cc h)
-no_request P begins ends Applying at m h = absurd (cc h)
-no_request P begins ends Posting at m h = absurd (cc h)
-no_request P begins ends Closing at m h = subst (λ (over : Bool). P (if over then next.End (reply_of m.change m.register) else asks Closing m)) (sym h) (ends (reply_of m.change m.register))
 
 -- a next line that is a request is the one that the transaction asks
 pub asked_of : (stage : Stage) (at : ℕ) (m : TransactionProgress) (b : BrickId) (q : Request) → Ready stage m → next_at stage at m ≡ next.Ask b q → IsAsking stage m × (asks stage m ≡ next.Ask b q)

@@ -12,8 +12,8 @@ use Rattle.afr_base.specs.Bricks.{is_nothing, lowest}
 use Rattle.afr_base.specs.Majority.{is_majority}
 use Rattle.afr_lines.specs.Areas.{kind_for}
 use Rattle.afr_discipline.specs.declared.register.Register.{Register}
-use Rattle.afr_client_transaction.specs.Made.{IsMade, IsTransaction, attempted, made_by}
-use Rattle.afr_client_transaction.specs.Progress.{TransactionProgress, answered, answered_by, enough, is_beginning, left, may_start, number_in, numbered, on_stage, request_at}
+use Rattle.afr_client_transaction.specs.Made.{IsMade, IsTransaction, made_by}
+use Rattle.afr_client_transaction.specs.Progress.{TransactionProgress, answered, answered_by, enough, is_beginning, left, may_start, number_in, on_stage, request_at}
 use Rattle.afr_client_transaction.specs.Sound.{During, IsAsking, Sound}
 use Rattle.afr_client_transaction.specs.declared.stage.Stage.{Stage}
 use Rattle.afr_client_transaction.specs.declared.stage.Stage.TheVariants.{Locking, Looking, Beginning, Preparing, Applying, Posting, Closing}
@@ -86,42 +86,6 @@ module _ (m : TransactionProgress) (s : Sound m) (told : Told) (at : ℕ) where
 -- whatever a brick answers, what was made stays
 pub kept_answer : (made : Option Change) (m : TransactionProgress) → IsTransaction made m → (told : Told) (at : ℕ) → IsAsking m.stage m → IsTransaction made (answered m.stage told at m)
 kept_answer made m k told at e = record { sound = kept m k.sound told at e; kept = answer_makes m k.sound told at made m.stage k.kept e }
-
--- ---- what is carried
--- while the bricks are asked for the operation, the attempt has its number
-number_there : (m : TransactionProgress) → Sound m → m.stage ≡ Applying → (q : ℕ) × (m.register.begun ≡ Some q)
-number_there m s e = go m.stage e s.during
-  where
-    go : (stage : Stage) → stage ≡ Applying → During stage m → (q : ℕ) × (m.register.begun ≡ Some q)
-    go Applying e d = (d.0.number, d.0.is_begun)
-    go stage e d = absurd (cc e)
-
-made_there : (made : Option Change) (m : TransactionProgress) → IsTransaction made m → m.stage ≡ Applying → made ≡ made_by m.register.begun m.change
-made_there made m k e = subst (λ (stage : Stage). IsMade stage made m) e k.kept
-
--- a change that makes an object is carried with its number
-pub carries_made : (made : Option Change) (m : TransactionProgress) → IsTransaction made m → m.stage ≡ Applying → (change : Change) → made ≡ Some change → change ≡ attempted m
-carries_made made m k e change is = go m.register.begun (number_there m k.sound e).1 m.change (sym is ∙ made_there made m k e)
-  where
-    go : (number : Option ℕ) → number ≡ Some (number_there m k.sound e).0 → (of : Change) → Some change ≡ made_by number of → change ≡ numbered (number_in number) of
-    go None none of h = absurd (cc none)
-    go (Some q) some (Make dir name g what) h = cc h
-    go (Some q) some (Write g start bytes) h = absurd (cc h)
-    go (Some q) some (Cut g len) h = absurd (cc h)
-    go (Some q) some (SetAttr g key value) h = absurd (cc h)
-    go (Some q) some (Remove dir name what) h = absurd (cc h)
-
--- any other is carried as it is
-pub carries_other : (made : Option Change) (m : TransactionProgress) → IsTransaction made m → m.stage ≡ Applying → made ≡ None → m.change ≡ attempted m
-carries_other made m k e is = go m.register.begun (number_there m k.sound e).1 m.change (sym is ∙ made_there made m k e)
-  where
-    go : (number : Option ℕ) → number ≡ Some (number_there m k.sound e).0 → (of : Change) → None ≡ made_by number of → of ≡ numbered (number_in number) of
-    go None none of h = absurd (cc none)
-    go (Some q) some (Make dir name g what) h = absurd (cc h)
-    go (Some q) some (Write g start bytes) h = refl
-    go (Some q) some (Cut g len) h = refl
-    go (Some q) some (SetAttr g key value) h = refl
-    go (Some q) some (Remove dir name what) h = refl
 
 -- ---- before an attempt
 -- before the Begin line nothing was made

@@ -1,10 +1,8 @@
 -- A read between the looks and the attempt is allowed, and leaves a transaction sound; so does giving up.
 use Rattle.std.proofs.Common.{◌≡◌, ℕ, ◌<◌, Bool, true, false, refl, sym, subst, inl}
-use Rattle.afr_base.specs.Bricks.{lowest, is_nothing}
-use Rattle.afr_base.specs.SetLemmas.{lowest_in}
+use Rattle.afr_base.specs.Bricks.{is_nothing}
 use Rattle.afr_base.specs.declared.ids.BrickId.{BrickId}
 use Rattle.afr_choice.specs.Verdict.{good_copies}
-use Rattle.afr_choice.specs.VerdictLemmas.{good_are_holders, holders_are_reached}
 use Rattle.afr_lines.specs.Areas.{kind_for}
 use Rattle.afr_lines.specs.declared.answer.Told.{Told}
 use Rattle.afr_lines.specs.declared.answer.Told.TheVariants as as_told
@@ -121,9 +119,3 @@ some_good m s is = go m.stage (begins_at m.stage is) s.during
         let k : HasQuorum m.change r.shape r.looked = quorum_there m.change r.shape r.looked s.base.few s.base.shown (both _ _ split.0).1 split.1 in
         k.clean
     go stage e d = absurd (cc e)
-
-pub good_inside : (m : TransactionProgress) → Sound m → is_beginning m.stage ≡ true → lowest (good_copies m.register.shape m.register.looked (kind_for m.change)) < m.register.shape.n
-good_inside m s is =
-    let r = m.register in
-    let one = lowest_in (good_copies r.shape r.looked (kind_for m.change)) (some_good m s is) in
-    s.base.shown.reached _ (holders_are_reached r.looked _ (good_are_holders r.shape r.looked (kind_for m.change) _ one))

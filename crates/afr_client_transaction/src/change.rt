@@ -1,12 +1,11 @@
 //! The change of a transaction: its object, its area, the kind that counts it, and the number of what it makes.
 ghost use Rattle.std.specs.Prelude.{◌≡◌, ◌<◌, ◌+◌, ◌-◌, ◌^◌, ◌&&◌, nat_le, nat_lt, min, true, false, IfOk, Some};
-ghost use Rattle.afr_lines.specs.Areas.{area_for, kind_for};
-ghost use Rattle.afr_object.specs.Tables.{object_of};
+ghost use Rattle.afr_lines.specs.Areas.{area_for};
 ghost use Rattle.afr_client_transaction.specs.Made.{made_by};
 ghost use Rattle.afr_client_transaction.specs.Progress.{gfid_at, numbered};
 ghost use Rattle.afr_client_transaction.specs.Sound.{Suits};
 
-use afr_base::{FIRST_ATTRIBUTE, Gfid, Kind, NameId, NoMemory, What};
+use afr_base::{FIRST_ATTRIBUTE, Gfid, NameId, NoMemory, What};
 use afr_lines::Area;
 use afr_object::{Change, TryCopy};
 
@@ -62,32 +61,6 @@ fn is_range(from: u64, len: u64) -> bool
 {
     let to = from.saturating_add(len);
     from < to && to <= FIRST_ATTRIBUTE
-}
-
-/// The numbers that count a change.
-pub(crate) fn kind_of(change: &Change) -> Kind
-    ensures { result ≡ kind_for change.now }
-{
-    match change {
-        Change::Write { .. } => Kind::Bytes,
-        Change::Cut { .. } => Kind::Bytes,
-        Change::SetAttr { .. } => Kind::Attrs,
-        Change::Make { .. } => Kind::Names,
-        Change::Remove { .. } => Kind::Names,
-    }
-}
-
-/// The object that a change is of: for a new or a removed entry, its directory.
-pub fn object_of(change: &Change) -> Gfid
-    ensures { result ≡ object_of change.now }
-{
-    match change {
-        Change::Write { gfid, .. } => *gfid,
-        Change::Cut { gfid, .. } => *gfid,
-        Change::SetAttr { gfid, .. } => *gfid,
-        Change::Make { dir, .. } => *dir,
-        Change::Remove { dir, .. } => *dir,
-    }
 }
 
 /// The change as the Begin line at this position has it: a new object, which has the number 0 until then, gets the position

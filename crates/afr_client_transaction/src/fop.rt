@@ -5,10 +5,9 @@ ghost use Rattle.afr_discipline.specs.Notes.{asked_at};
 ghost use Rattle.afr_lines.specs.Areas.{kind_for};
 ghost use Rattle.afr_client_transaction.specs.Progress.{enough, number_in};
 
-use crate::change::kind_of;
 use afr_base::BrickSet;
 use afr_discipline::{Register, Step, asked_at, begun, suffices};
-use afr_lines::Request;
+use afr_lines::{Request, kind_for};
 use afr_object::Change;
 
 /// The bricks whose operation is still to be asked for.
@@ -41,5 +40,5 @@ pub(crate) fn is_fop_done(change: &Change, r: &Register) -> bool
     requires { r.now.shape.n ≤ 5 }
     ensures { result ≡ enough r.now (kind_for change.now) r.now.done }
 {
-    suffices(r.shape, &r.looked, kind_of(change), r.done)
+    suffices(r.shape, &r.looked, kind_for(change), r.done)
 }

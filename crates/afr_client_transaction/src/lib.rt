@@ -14,7 +14,7 @@ mod second_work;
 mod stage;
 mod unlock;
 
-pub use change::{area_of, has_area, object_of};
+pub use change::{area_of, has_area};
 pub use laws::a_transaction_stays_sound;
 pub use machine::Transaction;
 pub use reply::TransactionOutcome;

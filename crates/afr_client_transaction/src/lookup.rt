@@ -3,11 +3,10 @@ ghost use Rattle.std.specs.Prelude.{◌≡◌, ◌<◌};
 ghost use Rattle.afr_base.specs.Bricks.{added, minus};
 ghost use Rattle.afr_object.specs.Tables.{object_of};
 
-use crate::change::object_of;
 use crate::stage::LocksAndLooks;
 use afr_base::{BrickId, BrickSet};
 use afr_lines::Request;
-use afr_object::Change;
+use afr_object::{Change, object_of};
 
 /// The bricks that are still to be looked at.
 pub(crate) fn to_look_up(asked: &LocksAndLooks) -> BrickSet

@@ -6,12 +6,11 @@ ghost use Rattle.afr_lines.specs.Areas.{kind_for};
 ghost use Rattle.afr_object.specs.Tables.{object_of};
 ghost use Rattle.afr_client_transaction.specs.Progress.{number_in};
 
-use crate::change::{kind_of, object_of};
 use crate::fop::attempt_of;
 use afr_base::BrickSet;
 use afr_discipline::{Register, Step, asked_at};
-use afr_lines::Request;
-use afr_object::Change;
+use afr_lines::{Request, kind_for};
+use afr_object::{Change, object_of};
 
 /// The bricks whose post-op is still to be asked for.
 pub(crate) fn to_post_op(r: &Register) -> BrickSet
@@ -27,7 +26,7 @@ pub(crate) fn post_op_request(change: &Change, r: &Register) -> Request
     Request::Post {
         attempt: attempt_of(r),
         gfid: object_of(change),
-        kind: kind_of(change),
+        kind: kind_for(change),
         missed: BrickSet::all(r.shape.n).minus(r.done),
     }
 }

@@ -7,12 +7,11 @@ ghost use Rattle.afr_lines.specs.Areas.{kind_for};
 ghost use Rattle.afr_object.specs.Tables.{object_of};
 ghost use Rattle.afr_client_transaction.specs.Progress.{enough};
 
-use crate::change::{kind_of, object_of};
 use afr_base::BrickSet;
 use afr_choice::holders;
 use afr_discipline::{Register, Step, asked_at, suffices};
-use afr_lines::Request;
-use afr_object::Change;
+use afr_lines::{Request, kind_for};
+use afr_object::{Change, object_of};
 
 /// The bricks whose pre-op is still to be asked for.
 pub(crate) fn to_pre_op(r: &Register) -> BrickSet
@@ -26,7 +25,7 @@ pub(crate) fn pre_op_request(change: &Change) -> Request
 {
     Request::Pre {
         gfid: object_of(change),
-        kind: kind_of(change),
+        kind: kind_for(change),
     }
 }
 
@@ -35,5 +34,5 @@ pub(crate) fn is_pre_op_done(change: &Change, r: &Register) -> bool
     requires { r.now.shape.n ≤ 5 }
     ensures { result ≡ enough r.now (kind_for change.now) r.now.pre }
 {
-    suffices(r.shape, &r.looked, kind_of(change), r.pre)
+    suffices(r.shape, &r.looked, kind_for(change), r.pre)
 }

@@ -2,11 +2,10 @@
 ghost use Rattle.std.specs.Prelude.{◌≡◌, ◌≤◌, IfOk};
 ghost use Rattle.afr_client_transaction.specs.Outcome.{outcome_of, reply_for};
 
-use crate::change::kind_of;
 use afr_base::NoMemory;
 use afr_choice::{good, holders};
 use afr_discipline::Register;
-use afr_lines::{Good, Reply};
+use afr_lines::{Good, Reply, kind_for};
 use afr_object::{Change, View, Views};
 use std::alloc::Global;
 
@@ -35,7 +34,7 @@ pub(crate) fn outcome_of(change: &Change, r: &Register) -> TransactionOutcome
         TransactionOutcome::NoQuorum
     } else if !holders(&r.looked).has_quorum(n) {
         TransactionOutcome::FewCopies
-    } else if good(&r.shape, &r.looked, kind_of(change)).is_empty() {
+    } else if good(&r.shape, &r.looked, kind_for(change)).is_empty() {
         TransactionOutcome::SplitBrain(r.looked.views)
     } else if r.post.has_quorum(n) {
         TransactionOutcome::Acknowledged

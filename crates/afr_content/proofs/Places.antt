@@ -1,8 +1,7 @@
 -- Which byte stands at a place of a file after each call, by what its pages keep.
 use Rattle.std.proofs.Common.{◌≡◌, ℕ, ◌+◌, ◌-◌, ◌*◌, ◌/◌, ◌%◌, ◌<◌, ◌≤◌, true, false, List, [], ◌++◌, length, get_or, take, drop, refl, ap, sym, ◌∙◌, ◌⊎◌, inl, inr, arith, ltb, if◌then◌else◌}
 use Rattle.std.proofs.lemmas.Bool.{cases_lt, cases_eq, lt-ltb, le-ltb}
-use Rattle.std.proofs.lemmas.List.{length-take, length-drop, get_or-take, get_or-drop, get_or_past, get_or_append_left, get_or-append_right, ext_get_or, take_all}
-use borrow.Rule.Slice.PartMut.{post_of, put_mid}
+use Rattle.std.proofs.lemmas.List.{length-take, length-drop, get_or-take, get_or-drop, get_or_past, ext_get_or, take_all}
 use Rattle.afr_object.specs.Bytes.{zeroed, byte_at, is_within}
 use Rattle.afr_object.specs.BytesLemmas.{byte_at-written_inside, byte_at-written_before, byte_at-written_after, byte_at-zeroed_inside, byte_at-zeroed_before, byte_at-zeroed_after, length-zeroed, is_within_tells}
 use Rattle.afr_content.specs.Kept.{byte_in, start_in, end_in, part, overlaid, cleared, shortened}
@@ -14,13 +13,6 @@ length-part at bytes q = omega (arith, length-take ((end_in (at + length bytes) 
 -- The bytes of that part are the write's.
 byte_at-part : (k at : ℕ) (bytes : List ℕ) (q : ℕ) → k < end_in (at + length bytes) q - start_in at q → byte_at k (part at bytes q) ≡ byte_at (start_in at q - at + k) bytes
 byte_at-part k at bytes q h = get_or-take ((end_in (at + length bytes) q - at) - (start_in at q - at)) (drop (start_in at q - at) bytes) k 0 (omega arith) ∙ get_or-drop (start_in at q - at) bytes k 0
-
--- The byte at a place of a page.
-pub byte_in-page : (pages : ℕ → List ℕ) (q r : ℕ) → r < 4096 → byte_in pages (q * 4096 + r) ≡ byte_at r (pages q)
-byte_in-page pages q r h =
-    let page : (q * 4096 + r) / 4096 ≡ q = omega arith in
-    let place : (q * 4096 + r) % 4096 ≡ r = omega arith in
-    rw (page, place) refl
 
 -- A page that a write doesn't reach keeps what it kept.
 pub overlaid_none : (at : ℕ) (bytes : List ℕ) (pages : ℕ → List ℕ) (q : ℕ) → end_in (at + length bytes) q ≤ start_in at q → overlaid at bytes pages q ≡ pages q
@@ -97,29 +89,3 @@ shortened_by_parts len first old mid new count short below above here others q =
         rw (e, here, whole) (none (len - (len / 4096) * 4096) (old (len / 4096)) (omega arith))
     by_side (inr e) (inl h) = others q e ∙ below q h ∙ sym (take_all (len - q * 4096) (old q) (omega (arith, short q)))
     by_side (inr e) (inr h) = others q e ∙ above q h ∙ none (len - q * 4096) (old q) (omega arith)
-
--- After one more page of a read, each byte up to that page's end stands in its place.
-pub shown_more : (pages : ℕ → List ℕ) (at n from to : ℕ) (xs ys : List ℕ) → from ≡ start_in at n → to ≡ end_in (at + length xs) n → from < to → length ys ≡ (to - at) - (from - at)
-    → ((k : ℕ) → k < length ys → get_or ys k 0 ≡ byte_at (from - n * 4096 + k) (pages n))
-    → ((k : ℕ) → k < length xs → at + k < n * 4096 → get_or xs k 0 ≡ byte_in pages (at + k))
-    → (k : ℕ) → k < length xs → at + k < (n + 1) * 4096 → get_or (put_mid (from - at) ((to - at) - (from - at)) xs ys) k 0 ≡ byte_in pages (at + k)
-shown_more pages at n from to xs ys start end some size here before k l m = by_side (cases_lt k (from - at))
-  where
-    rest : List ℕ
-    rest = post_of (from - at) ((to - at) - (from - at)) xs
-
-    front : length (take (from - at) xs) ≡ from - at
-    front = omega (arith, length-take (from - at) xs)
-
-    by_side : (k < from - at) ⊎ (from - at ≤ k) → get_or (put_mid (from - at) ((to - at) - (from - at)) xs ys) k 0 ≡ byte_in pages (at + k)
-    by_side (inl h) =
-        get_or_append_left (take (from - at) xs) (ys ++ rest) 0 k (omega (arith, front))
-        ∙ get_or-take (from - at) xs k 0 h
-        ∙ before k l (omega arith)
-    by_side (inr h) =
-        let place : n * 4096 + (from - n * 4096 + (k - (from - at))) ≡ at + k = omega arith in
-        get_or-append_right (take (from - at) xs) (ys ++ rest) (from - at) k 0 front h
-        ∙ get_or_append_left ys rest 0 (k - (from - at)) (omega arith)
-        ∙ here (k - (from - at)) (omega arith)
-        ∙ sym (byte_in-page pages n (from - n * 4096 + (k - (from - at))) (omega arith))
-        ∙ ap (byte_in pages) place

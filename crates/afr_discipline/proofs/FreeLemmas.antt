@@ -27,10 +27,6 @@ pub shape_is : (shape : Shape) (r : Register) → IsFree shape r → r.shape ≡
 shape_is shape r (inl e) = ap (λ (x : Register). x.shape) e
 shape_is shape r (inr e) = ap (λ (x : Register). x.shape) e
 
-pub upto_is : (shape : Shape) (r : Register) → IsFree shape r → r.upto ≡ 0
-upto_is shape r (inl e) = ap (λ (x : Register). x.upto) e
-upto_is shape r (inr e) = ap (λ (x : Register). x.upto) e
-
 -- ---- a line more
 -- what a request and its answer leave of the register before any line
 noted_first : (shape : Shape) (at b : ℕ) (request : Request) (told : Told) → is_free request ≡ true → noted_ask (no_lines shape) at b request told ≡ opened shape

@@ -133,11 +133,6 @@ is_behind a b x y here there h = grind (arith, nat_tests, here, there, h)
 pub is_ahead : (a b x y : ℕ) → x ≡ a → y ≡ b → y ≤ x → nat_le b a ≡ true
 is_ahead a b x y here there h = grind (arith, nat_tests, here, there, h)
 
--- a step that asks nobody leaves none
-pub none_left : (p : Register) (s : ℕ) (step given : TheStep) → step ≡ given → ((x : ℕ) → set_of p.shape.n (keeps_in p.shape) (seen_as p) s (step_of given) x ≡ false) → AreLeft p s step []
-none_left p s step given e none x few =
-    sym (ap (λ (there : Bool). there && not (asked_in (seen_as p) (step_of step) x)) (ap (λ (step : TheStep). set_of p.shape.n (keeps_in p.shape) (seen_as p) s (step_of step) x) e ∙ none x))
-
 -- in a step that is behind the actor it is nobody's turn
 pub not_its_turn : (n : ℕ) (keeps : ℕ → Kind → Bool) (r : Exact) (s : ℕ) (step : Step) (b : ℕ) → nat_le (rank r.step) (rank step) ≡ false → turn n keeps r s step b ≡ false
 not_its_turn n keeps r s step b behind = ap (λ (e : Bool). e && set_of n keeps r s step b && not (asked_in r step b) && over b (set_of n keeps r s step) (asked_in r step)) behind

@@ -11,7 +11,7 @@ use Rattle.afr_base.specs.declared.ids.Shape.{Shape}
 use Rattle.afr_object.specs.declared.entry.View.{View}
 use Rattle.afr_choice.specs.Looks.{with_look, without_look}
 use Rattle.afr_choice.specs.declared.looked.Looked.{Looked}
-use Rattle.afr_model_moves.specs.Sets.{empty, with, without}
+use Rattle.afr_model_moves.specs.Sets.{with, without}
 use Rattle.afr_model_moves.specs.Keeps.{keeps_in}
 use Rattle.afr_model_moves.specs.Note.{put}
 use Rattle.afr_discipline.proofs.LeftLemmas.{turned_round}
@@ -33,11 +33,6 @@ without_removed b s = fun_ext (λ x. at x)
     at : (x : ℕ) → (if x == b then false else member s x) ≡ member (removed b s) x
     at x = ap (λ (e : Bool). if e then false else member s x) (turned x b) ∙ and_choice (b == x) (member s x) ∙ sym (member_removed b s x)
 
--- the same where the flag is set
-pub with_added_if : (flag : Bool) (b : ℕ) (s : List ℕ) → (if flag then with (member s) b else member s) ≡ member (added_if flag b s)
-with_added_if true b s = with_added b s
-with_added_if false b s = refl
-
 -- the same unless the brick is to be asked again
 pub with_not : (again : Bool) (b : ℕ) (s : List ℕ) → (if again then member s else with (member s) b) ≡ member (added_if (not again) b s)
 with_not true b s = refl
@@ -50,10 +45,6 @@ put_marked_yes b s = with_added b s
 -- a no that is noted of a brick is the brick out of the set
 pub put_marked_no : (b : ℕ) (s : List ℕ) → put (member s) b false ≡ member (removed b s)
 put_marked_no b s = without_removed b s
-
--- no brick is in the set of none
-pub empty_member : empty ≡ member []
-empty_member = refl
 
 -- ---- views and reads
 -- what is noted of brick b stands at its place in the list

@@ -49,12 +49,6 @@ pub record WalkStands (p : Register) (r : Exact) : Type 0 where
   pub reads : r.reads ≡ reads_of p.reads
   pub upto : r.upto ≡ p.upto
 
--- ---- what is asked, and how the bricks are noted
--- the bricks that were asked, if it is the present step
-pub asked_if : (same : Bool) (s : List ℕ) → (if same then member s else empty) ≡ member (if same then s else [])
-asked_if true s = refl
-asked_if false s = refl
-
 -- the brick that was asked is among them, unless it is asked again
 pub asked_again : (again : Bool) (b : ℕ) (same : Bool) (s : List ℕ)
     → (if again then (if same then member s else empty) else with (if same then member s else empty) b) ≡ member (added_if (not again) b (if same then s else []))

@@ -16,7 +16,7 @@ use Rattle.afr_discipline.specs.Stands.{Stands, seen_as, step_of}
 use Rattle.afr_discipline.proofs.StandsLemmas.{filled}
 use Rattle.afr_discipline.proofs.FirstLemmas.{any_same}
 use Rattle.afr_discipline.proofs.NotedLaw.{LawStands, stopped_law}
-use Rattle.afr_discipline.proofs.StepsOutside.{MayMatch, StepsStand, asked_if}
+use Rattle.afr_discipline.proofs.StepsOutside.{MayMatch, StepsStand}
 
 -- the half of the law's register
 pub law_half : (p : Register) (r : Exact) → Stands p r → LawStands p r.law

@@ -1,22 +1,17 @@
 -- The lines of a heal's machine and those of the engine.
 use Rattle.std.proofs.Common.{◌≡◌, ℕ, zero, suc, ◌<◌, ◌≤◌, ◌&&◌, nat_lt, Bool, true, false, refl, ap, subst, arith, Option, None, Some, if◌then◌else◌}
-use Rattle.std.proofs.lemmas.Bool.Decides.{nat_tests}
 use Rattle.afr_base.specs.declared.ids.BrickId.{BrickId}
 use Rattle.afr_base.specs.declared.ids.Gfid.{Gfid}
 use Rattle.afr_base.specs.declared.ids.Kind.{Kind}
 use Rattle.afr_lines.specs.declared.request.Request.{Request}
-use Rattle.afr_model_moves.specs.Keeps.{keeps_in}
 use Rattle.afr_model_moves.specs.Register.{over}
 use Rattle.afr_model_moves.specs.Steps.{is_lowest}
 use Rattle.afr_discipline.specs.declared.register.Register.{Register}
-use Rattle.afr_discipline.specs.Stands.{seen_as}
 use Rattle.afr_discipline.specs.Turns.{brick_of, find, later}
-use Rattle.afr_heal.specs.Carried.{Heals, next_by}
+use Rattle.afr_heal.specs.Carried.{Heals}
 use Rattle.afr_heal.specs.Engine.{NextOfHeal, Ask, or_else}
-use Rattle.afr_heal.specs.Laws.{allows_next, asks_well}
 use Rattle.afr_heal.proofs.Finding.{find_none, find_some, over_all}
-use Rattle.afr_heal.proofs.Moved.{heals_allowed}
-use Rattle.afr_heal.proofs.Parts.{both, not_both}
+use Rattle.afr_heal.proofs.Parts.{not_both}
 
 -- a brick that was found is one of the five
 pub brick_below : (n : ℕ) (p : ℕ → Bool) (b : BrickId) → n ≤ 5 → brick_of (find n p) ≡ Some b → b.0 < 5
@@ -52,13 +47,3 @@ lowest_same (suc n) p = go (find n p) refl (lowest_same n p)
     go : (o : Option ℕ) → find n p ≡ o → find n (is_lowest p (λ x. false)) ≡ find n p → later (find n (is_lowest p (λ x. false))) n (is_lowest p (λ x. false) n) ≡ later (find n p) n (p n)
     go (Some c) e h = rw (h, e) refl
     go None e h = rw (h, e) (ap (λ (f : Bool). if f then Some n else None) (both_so (p n) (over n p (λ x. false)) (over_all n p (λ x. false) (λ x l m. absurd (not_both (p x) m (find_none n p e x l))))))
-
--- a heal asks one of the five bricks
-pub small_next : (p : Register) (s : ℕ) (g : Gfid) (kind : Kind) → Heals p s g kind → (b : ℕ) (request : Request) → next_by p s g kind ≡ Ask b request → b < 5
-small_next p s g kind k b request next =
-    let asks : asks_well p.shape.n (keeps_in p.shape) (seen_as p) b request ≡ true = subst (λ (next : NextOfHeal). allows_next p.shape.n (keeps_in p.shape) (seen_as p) g kind next ≡ true) next (heals_allowed p s g kind k).0 in
-    let few = k.few in
-    small b p.shape.n (both (nat_lt b p.shape.n) _ asks).0 few
-  where
-    small : (b n : ℕ) → nat_lt b n ≡ true → n ≤ 5 → b < 5
-    small b n h l = grind (arith, nat_tests, h, l)

@@ -60,9 +60,6 @@ over_lowest set asked (suc k) h = go (set k) (asked k) (over k set asked) (over_
     go true true under e h = e
     go true false under e h = absurd (not_both under e h)
 
-pub lowest_none : (n : ℕ) (set asked : ℕ → Bool) → find n (is_lowest set asked) ≡ None → over n set asked ≡ true
-lowest_none n set asked h = over_lowest set asked n (find_none n (is_lowest set asked) h)
-
 module _ (n : ℕ) (keeps : ℕ → Kind → Bool) (r : Exact) (s : ℕ) where
   turn_lowest : (step : Step) → nat_le (rank r.step) (rank step) ≡ true → (b : ℕ) → turn n keeps r s step b ≡ is_lowest (set_of n keeps r s step) (asked_in r step) b
   turn_lowest step e b = rw e refl

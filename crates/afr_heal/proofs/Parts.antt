@@ -12,10 +12,6 @@ pub or_true : (x : Bool) → (x || true) ≡ true
 or_true true = refl
 or_true false = refl
 
-pub or_false : (x y : Bool) → x ≡ false → (x || y) ≡ true → y ≡ true
-or_false true y e h = absurd (cc e)
-or_false false y e h = h
-
 pub off : (x y : Bool) → x ≡ false → (x && y) ≡ false
 off true y h = absurd (cc h)
 off false y h = refl

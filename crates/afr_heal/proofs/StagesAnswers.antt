@@ -3,14 +3,14 @@ use Rattle.std.proofs.Common.{ℕ, ◌≡◌, ◌+◌, ◌&&◌, ◌||◌, if◌
 use Rattle.afr_base.specs.declared.ids.Gfid.{Gfid}
 use Rattle.afr_base.specs.declared.ids.Kind.{Kind}
 use Rattle.afr_base.specs.declared.marks.Marks.{Marks}
-use Rattle.afr_heal.proofs.StagesForms.{going_at, granting_by, granting_first, heal_at, locking_by, locking_first, looked_at, lost, new_at, part_at, released_own, shape, stepped, still, unlocked_own, viewed_at, work_at}
+use Rattle.afr_heal.proofs.StagesForms.{going_at, granting_by, granting_first, heal_at, locking_by, locking_first, looked_at, new_at, part_at, released_own, shape, stepped, still, unlocked_own, viewed_at, work_at}
 use Rattle.afr_heal.specs.Answers.{asked_for, begun_at}
 use Rattle.afr_lines.specs.declared.answer.Told.{Told}
 use Rattle.afr_lines.specs.declared.answer.Told.TheVariants as as_told
 use Rattle.afr_lines.specs.declared.request.Area.{Area}
 use Rattle.afr_lines.specs.declared.request.Request.{Request}
 use Rattle.afr_lines.specs.declared.request.Request.TheVariants.{Lock, Unlock, Look, ReadBytes, List, ReadAttrs, Pre, Mend, Settle}
-use Rattle.afr_model_moves.specs.Note.{breaks, next_part, put}
+use Rattle.afr_model_moves.specs.Note.{next_part, put}
 use Rattle.afr_model_moves.specs.Register.{Exact, Finish, HealLocks, HealPart, HealPres, HealUnlocks, Looks, Mends, Opening, Piece, Reads, Settles, Unlocks, WorkLocks, asked_in, is_opening, is_piece, no_reads, rank, span}
 use Rattle.afr_model_moves.specs.Rules as weak
 use Rattle.afr_model_moves.specs.Rules.{Register, begun, busy, heal_area, is_area, no_views}
@@ -202,16 +202,3 @@ module _ (n : ℕ) (keeps : ℕ → Kind → Bool) (q : Exact) (g : Gfid) (kind 
 
     pub next_held : (owner : _) → asked_for n keeps going t b (Lock Work next) (as_told.Held owner) ≡ part_at n keeps going (next_part going next) (asked_in going WorkLocks) still_next false (begun going.law next)
     next_held owner = ap (part_at n keeps going (next_part going next) (asked_in going WorkLocks) still_next false) (locking_first n going.law next b free)
-
--- ---- answers that break a heal, and those to a broken one
--- an answer that breaks the heal, whatever else it leaves
-pub breaks_it : (n : ℕ) (keeps : ℕ → Kind → Bool) (r : Exact) (t b : ℕ) (request : Request) (told : Told) → r.law.heal ≡ true → breaks r request told ≡ true → (asked_for n keeps r t b request told).broken ≡ true
-breaks_it n keeps r t b request told inside h = rw (inside, h) (or_then r.broken _)
-  where
-    or_then : (x y : Bool) → ((x || true) || y) ≡ true
-    or_then true y = refl
-    or_then false y = refl
-
--- a broken heal stays broken
-pub stays_broken : (n : ℕ) (keeps : ℕ → Kind → Bool) (q : Exact) (g : Gfid) (t b : ℕ) (request : Request) (told : Told) → (asked_for n keeps (lost q g) t b request told).broken ≡ true
-stays_broken n keeps q g t b request told = refl

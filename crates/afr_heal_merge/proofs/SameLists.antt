@@ -12,7 +12,3 @@ same_step (y ∷ xs) (z ∷ ys) zero x e f h =
     let second : z ≡ x = cc in
     rw (first, second) (λ i. x ∷ h i)
 same_step (y ∷ xs) (z ∷ ys) (suc k) x e f h = same_step xs ys k x e f h
-
--- Names with one number and one entry are the same.
-pub same_entry : (x y : NameId × Entry) → x.0.0 ≡ y.0.0 → x.1.gfid.0 ≡ y.1.gfid.0 → x.1.what ≡ y.1.what → x ≡ y
-same_entry x y e f g = λ i. (record { 0 = e i }, record { gfid = record { 0 = f i }; what = g i })

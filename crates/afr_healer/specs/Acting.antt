@@ -63,12 +63,6 @@ pub record CanStepWith (a : ActorId) (v : Visit) (m : Rounding) (servers : List 
 abbrev pub CanStep : ActorId → ℕ → Healer → List Serving → Type 0
 CanStep a at x servers = (m : Rounding) → x.round ≡ Some m → CanStepWith a x.visit m servers
 
--- ---- one line
--- whether it asks for an index: the round's first heal opens sessions anew
-abbrev pub is_index : Request → Bool
-is_index Index = true
-is_index other = false
-
 abbrev pub met_after : Request → Bool
 met_after Index = false
 met_after other = true

@@ -12,7 +12,6 @@ pub mod Untouched
 pub mod PostsOnce
 pub mod Implies
 pub mod ByList
-pub mod Safe
 pub mod SameMoves
 pub mod Known
 pub mod Covers

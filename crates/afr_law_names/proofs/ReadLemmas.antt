@@ -24,10 +24,6 @@ use Rattle.afr_model_moves.specs.Positions.{by_position}
 use Rattle.afr_plan.specs.declared.plan.Plan.{Plan}
 use Rattle.afr_law_tables.specs.Codes.{value_code}
 
-pub ends_it : (a : ℕ) (line : Line) → ends_work a line ≡ true → EndsWork a (Some line)
-ends_it a (End x reply) e = grind (arith, nat_tests)
-ends_it a line e = absurd (true≢false (sym e))
-
 none_ends : (a : ℕ) (line : Line) → ends_work a line ≡ false → EndsWork a (Some line) → ⊥
 none_ends a (End x reply) e k = absurd (grind (arith, nat_tests))
 none_ends a line e k = k

@@ -1,8 +1,10 @@
-//! What an actor asks a brick.
+//! What an actor asks a brick, and which numbers count a change.
+ghost use Rattle.std.specs.Prelude.{◌≡◌};
+ghost use Rattle.afr_lines.specs.Areas.{kind_for};
 
 use crate::lock::Domain;
 use afr_base::{BrickSet, Gfid, KeyId, Kind, Marks, NameId};
-use afr_object::Repair;
+use afr_object::{Change, Repair};
 
 /// What a lock covers. A range is `[from, to)` of a file's bytes, with `to` at most 2^63; the range
 /// `[2^63, 2^63 + 1)` stands for the attributes. A name of None is the whole directory.
@@ -71,4 +73,17 @@ pub enum Request {
         kind: Kind,
         less: Marks,
     },
+}
+
+/// The numbers that count a change.
+pub fn kind_for(change: &Change) -> Kind
+    ensures { result ≡ kind_for change.now }
+{
+    match change {
+        Change::Write { .. } => Kind::Bytes,
+        Change::Cut { .. } => Kind::Bytes,
+        Change::SetAttr { .. } => Kind::Attrs,
+        Change::Make { .. } => Kind::Names,
+        Change::Remove { .. } => Kind::Names,
+    }
 }

@@ -4,7 +4,6 @@ use Rattle.afr_base.specs.declared.ids.ActorId.{ActorId}
 use Rattle.afr_lines.specs.Work.{is_end}
 use Rattle.afr_lines.specs.declared.line.Line.TheVariants.{End}
 use Rattle.afr_lines.specs.declared.line.Line.{Line}
-use Rattle.afr_log.specs.Log.{waits_for}
 use Rattle.afr_volume.proofs.TaskDone.{done_by_plan}
 use Rattle.afr_volume.specs.Going.{Goes, IsHappening, Still, Later}
 use Rattle.afr_volume.specs.State.{State}
@@ -34,35 +33,6 @@ moved_line a old new turned h moved = rw moved at h
 
 pub moved_few : (a : ActorId) (old new : State) (turned : Turned) → Turns a old turned new → turned ≡ Moved → length new.log < 2 ^ 32 → works_ended old.log < 2 ^ 32
 moved_few a old new turned h moved few = let adds = moved_line a old new turned h moved in omega (arith, few, ap length adds.added, ends_few old.log)
-
--- and where that line ends a work, one more has ended
-pub moved_ends : (a : ActorId) (old new : State) (turned : Turned) → Turns a old turned new → turned ≡ Moved
-    → (b : Bool) → ((line : Line) (older : List Line) → new.log ≡ line ∷ older → b ≡ is_end line) → b ≡ true
-    → works_ended new.log ≡ works_ended old.log + 1
-moved_ends a old new turned h moved b tells is =
-    let adds = moved_line a old new turned h moved in
-    let ends : is_end adds.line ≡ true = sym (tells adds.line old.log adds.added) ∙ is in
-    rw (adds.added, ends) refl
-
--- a line that waits for somebody ends nothing
-waits_on : (line : Line) (owner : ActorId) → waits_for line ≡ Some owner → is_end line ≡ false
-waits_on (End a said) owner e = absurd (cc e)
-waits_on line owner e = refl
-
--- where it ends no work, or no line was added, as many have ended
-pub still_ends : (a : ActorId) (old new : State) (turned : Turned) → Turns a old turned new → turned ≡ Moved
-    → (b : Bool) → ((line : Line) (older : List Line) → new.log ≡ line ∷ older → b ≡ is_end line) → b ≡ false
-    → works_ended new.log ≡ works_ended old.log
-still_ends a old new turned h moved b tells is =
-    let adds = moved_line a old new turned h moved in
-    let goes_on : is_end adds.line ≡ false = sym (tells adds.line old.log adds.added) ∙ is in
-    rw (adds.added, goes_on) refl
-
-pub unmoved_ends : (a : ActorId) (old new : State) (turned : Turned) → Turns a old turned new → (turned ≡ Moved → ⊥) → works_ended new.log ≡ works_ended old.log
-unmoved_ends a old new Moved h other = absurd (other refl)
-unmoved_ends a old new (Waits owner) h other = (let goes_on : is_end h.line ≡ false = waits_on h.line owner h.waiting in rw (h.added, goes_on) refl)
-unmoved_ends a old new Ended h other = rw h.1 refl
-unmoved_ends a old new Full h other = rw h.2 refl
 
 -- ---- what a turn has made of the volume, after the events before it
 pub takes_turn : (a : ActorId) (old mid new : State) (turned : Turned) → Goes old mid → Turns a mid turned new → TakesTurn a old turned new

@@ -1,3 +1,1 @@
 pub mod Entries
-pub mod Five
-pub mod Looks

@@ -7,7 +7,7 @@ use Rattle.afr_base.specs.declared.ids.Gfid.{Gfid}
 use Rattle.afr_base.specs.declared.ids.What.TheVariants.{Dir}
 use Rattle.afr_choice.specs.Looks.{no_looks, with_look, without_look}
 use Rattle.afr_choice.specs.declared.looked.Looked.{Looked}
-use Rattle.afr_object.specs.Tables.{Table, copy_at, key_cmp, root}
+use Rattle.afr_object.specs.Tables.{Table, copy_at, key_cmp}
 use Rattle.afr_object.specs.declared.entry.Entry.{Entry}
 use Rattle.afr_object.specs.Object.{Object}
 use Rattle.afr_lines.specs.Areas.{object_of_area}
@@ -94,16 +94,6 @@ looked_by g (x ∷ w) = looked_after g x.0 (looked_by g w)
 abbrev pub among : (Line → List ℕ → List ℕ) → Work → List ℕ
 among f [] = []
 among f (x ∷ w) = f x.0 (among f w)
-
--- those that were asked for a lock on the object, and not told that another holds it
-abbrev pub locking : Gfid → Line → List ℕ → List ℕ
-locking g (Ask a b (request.Lock WorkDomain area) told took) s = if (object_of_area area).0 == g.0 then added_if (not (is_held told)) b.0 s else s
-locking g line s = s
-
--- those that granted it
-abbrev pub granting : Gfid → Line → List ℕ → List ℕ
-granting g (Ask a b (request.Lock WorkDomain area) told took) s = if (object_of_area area).0 == g.0 then added_if (is_granted told) b.0 s else s
-granting g line s = s
 
 -- those that were looked at, since the last lock on the object
 abbrev pub looking : Gfid → Line → List ℕ → List ℕ

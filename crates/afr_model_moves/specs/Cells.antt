@@ -9,7 +9,6 @@ use Rattle.afr_base.specs.declared.ids.What.TheVariants.{File, Dir}
 use Rattle.afr_base.specs.declared.ids.NameId.{NameId}
 use Rattle.afr_object.specs.declared.change.Change.{Change}
 use Rattle.afr_object.specs.declared.change.Change.TheVariants.{Write, Cut, SetAttr, Make, Remove}
-use Rattle.afr_base.specs.Kinds.{same_kind}
 
 -- a byte of a file, an attribute of an object, or a name of a directory, by numbers
 pub data Cell : Type 0 where
@@ -28,10 +27,6 @@ abbrev pub kind_of : Cell → Kind
 kind_of (Byte g i) = Bytes
 kind_of (Attr g k) = Attrs
 kind_of (Entry g n) = Names
-
--- the plane of a cell is its object and its kind
-abbrev pub in_plane : ℕ → Kind → Cell → Bool
-in_plane g kind cell = (g == object_of cell) && same_kind kind (kind_of cell)
 
 -- a file is 1, a directory 2, and 0 is no object
 abbrev pub what_code : What → ℕ

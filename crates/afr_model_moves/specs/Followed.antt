@@ -6,12 +6,7 @@ use Rattle.afr_lines.specs.Places.{opens, place_of}
 use Rattle.afr_lines.specs.Work.{is_of}
 use Rattle.afr_lines.specs.declared.line.Line.{Line}
 use Rattle.afr_model_moves.specs.Discipline.{in_force, note}
-use Rattle.afr_model_moves.specs.Keeps.{keeps_in}
 use Rattle.afr_model_moves.specs.Register.{Exact, untouched}
-
--- the register of an actor after one more line at this position, if it is the actor's
-abbrev pub noted_if : Bool → Bool → Shape → Exact → ℕ → Line → Exact
-noted_if own first shape r at line = if own then note shape.n (keeps_in shape) (in_force first r) at (Some line) else r
 
 -- the register of an actor after these lines, the newest first
 abbrev pub register_by : ℕ → (ℕ → Kind → Bool) → ℕ → List Line → Exact

@@ -149,10 +149,6 @@ abbrev pub area_object : Area → ℕ
 area_object (Range g from to) = g.0
 area_object (Name g name) = g.0
 
--- a line of a heal names the heal's object
-abbrev pub healing_on : Register → Area → Register
-healing_on r area = record r { heal = true; object = area_object area }
-
 -- which cells the last piece changed, with those of this repair at b
 abbrev pub mend_cells : (ℕ → Cell → ℕ) → ℕ → ℕ → Repair → ℕ → Cell → ℕ
 mend_cells cells number b repair c cell = if (c == b) && mends repair cell then number else cells c cell

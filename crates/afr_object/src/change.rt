@@ -1,5 +1,6 @@
 //! What a client changes, what a heal repairs, and what each carries.
 ghost use Rattle.std.specs.Prelude.{◌≡◌, IfOk};
+ghost use Rattle.afr_object.specs.Tables.{object_of};
 
 use crate::chunk::Chunk;
 use crate::entry::{AttrList, NameList};
@@ -111,4 +112,17 @@ fn copy_write(gfid: Gfid, at: u32, bytes: &Chunk) -> Result<Change, NoMemory>
 {
     let bytes = bytes.copy()?;
     Ok(Change::Write { gfid, at, bytes })
+}
+
+/// The object that a change is of: for a new or a removed entry, its directory.
+pub fn object_of(change: &Change) -> Gfid
+    ensures { result ≡ object_of change.now }
+{
+    match change {
+        Change::Write { gfid, .. } => *gfid,
+        Change::Cut { gfid, .. } => *gfid,
+        Change::SetAttr { gfid, .. } => *gfid,
+        Change::Make { dir, .. } => *dir,
+        Change::Remove { dir, .. } => *dir,
+    }
 }

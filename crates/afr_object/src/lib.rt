@@ -9,7 +9,7 @@ mod sorted_map;
 mod try_copy;
 mod views;
 
-pub use change::{Change, Load, Repair};
+pub use change::{Change, Load, Repair, object_of};
 pub use chunk::Chunk;
 pub use entry::{AttrList, Entry, IndexList, NameList, View};
 pub use list::List;

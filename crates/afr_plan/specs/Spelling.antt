@@ -1,7 +1,7 @@
 -- How the parts of a line are spelled: each is a relation between some bytes and what they stand for.
 use Rattle.std.specs.Prelude.{◌≡◌, ℕ, List, ◌++◌, ◌⊎◌, Bool, true}
 use Rattle.std.specs.List.{list_all}
-use Rattle.afr_plan.specs.Bytes.{digit, name_byte, path_byte, key_byte, text_byte, is_numeral, is_name, is_key, is_text, value, small_value}
+use Rattle.afr_plan.specs.Bytes.{digit, path_byte, key_byte, text_byte, is_numeral, is_key, is_text, value, small_value}
 use Rattle.afr_plan.specs.Paths.{names_in, is_path, is_named_path}
 
 -- bytes that each pass one test and together pass another stand for themselves
@@ -27,10 +27,6 @@ Word word a w x = (w ≡ word) × (a ≡ x)
 -- one of two forms
 abbrev pub Either : {A : Type 0} → (List ℕ → A → Type 0) → (List ℕ → A → Type 0) → List ℕ → A → Type 0
 Either S T w x = S w x ⊎ T w x
-
--- a name, as it stands
-abbrev pub IsName : List ℕ → List ℕ → Type 0
-IsName = IsRun name_byte is_name
 
 -- a key or a value, as it stands
 abbrev pub IsKey : List ℕ → List ℕ → Type 0

@@ -138,16 +138,6 @@ lines_more before s c d place h a =
     kinds (Afr v) = omega arith
     kinds s = omega arith
 
-heads_few : (before : List Said) → head_lines before ≤ 5
-heads_few [] = omega arith
-heads_few (End ∷ older) = omega arith
-heads_few (s ∷ older) = omega arith
-
--- the totals bound the lines
-pub lines_few : (before : List Said) (c : LineCounts) → IsCounted before c → length before ≤ 20504
-lines_few before c h =
-    omega (arith, heads_few before, h.few_lines, h.few_clients, h.few_commands, h.few_healers, h.few_rounds, h.few_faults, h.few_events, h.few_orders)
-
 -- ---- one line more
 position-kept : (before : List Said) (s : Said) (c : ℕ) → c ≡ last_at before → position_of s c ≡ last_at (s ∷ before)
 position-kept before (At at event) c e = refl

@@ -64,9 +64,6 @@ front_again p (y ∷ a) rest h s =
     let more : list_all p a ≡ true = and_right (p y) (list_all p a) h in
     rw (take_while-cons p y (a ++ rest), here) (ap (λ t. y ∷ t) (front_again p a rest more s))
 
-pub front_rest : (p : ℕ → Bool) (a rest : List ℕ) → list_all p a ≡ true → Stops p rest → front p (a ++ rest) ≡ (a, rest)
-front_rest p a rest h s = rw (front_again p a rest h s) (ap (λ (t : List ℕ). (a, t)) (drop_at a rest (length a) refl))
-
 -- two fronts, one after the other
 pub joined : (xs u r v q : List ℕ) → xs ≡ u ++ r → r ≡ v ++ q → xs ≡ (u ++ v) ++ q
 joined xs u r v q e f = e ∙ ap (λ (t : List ℕ). u ++ t) f ∙ sym (append_assoc u v q)

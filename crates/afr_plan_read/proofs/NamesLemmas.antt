@@ -77,6 +77,3 @@ pub next_file : (i k : ℕ) → k ≡ suc i → k < 2 ^ 64 → with_name (file_n
 next_file i k e h =
     let new : list_any (bytes_eq (file_name k)) (file_names i) ≡ false = not_among k i (omega (arith, e)) h in
     rw new (rw e refl)
-
-abbrev pub id_of : ℕ → NameId
-id_of n = record { 0 = n }

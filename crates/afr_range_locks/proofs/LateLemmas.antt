@@ -3,8 +3,7 @@ use Rattle.std.proofs.Common.{◌≡◌, ℕ, zero, suc, ◌+◌, ◌<◌, Bool,
 use Rattle.std.proofs.lemmas.List.{append_assoc, get_or_append_left, get_or_at, length-append}
 use Rattle.std.proofs.lemmas.List.Elements.{filter-append}
 use Rattle.std.proofs.lemmas.Option.{same_Some}
-use Rattle.std.specs.List.{filter, remove}
-use Rattle.std.specs.Option.{option_or}
+use Rattle.std.specs.List.{filter}
 use Rattle.afr_base.specs.declared.ids.ActorId.{ActorId}
 use Rattle.afr_lines.specs.Locks.{AreApart, conflicts, first_conflict}
 use Rattle.afr_lines.specs.declared.lock.HeldLock.{HeldLock}
@@ -42,11 +41,6 @@ module _ {A : Type 0} (overlap : A → A → Bool) where
   apart_after wanted xs ys new all true same apart free is =
       subst (AreApart overlap) (sym (ap (λ (l : List (HeldLock A)). xs ++ l) is ∙ sym (append_assoc xs ys (wanted ∷ [])) ∙ ap (λ (l : List (HeldLock A)). l ++ wanted ∷ []) same)) (pushed overlap wanted all apart free)
   apart_after wanted xs ys new all false same apart free is = subst (AreApart overlap) (sym (ap (λ (l : List (HeldLock A)). xs ++ l) is ∙ same)) apart
-
--- the first of the second part comes last in the first part
-pub moved : {X : Type 0} (xs ys : List X) (y : X) → slice_get ys 0 ≡ Some y → (xs ++ y ∷ []) ++ remove ys 0 ≡ xs ++ ys
-moved xs [] y is = absurd (cc)
-moved xs (x ∷ ys) y is = let same : x ≡ y = same_Some _ _ is in rw (← same) (append_assoc xs (x ∷ []) ys)
 
 module _ {A : Type 0} (p : HeldLock A → Bool) where
   -- what is left of both parts is left of all

@@ -1,6 +1,6 @@
 -- A table of texts: what lies between two cuts, and one text more.
 use Rattle.std.proofs.Common.{◌≡◌, ◌∙◌, ℕ, zero, suc, ◌+◌, ◌-◌, ◌<◌, ◌≤◌, List, [], ◌∷◌, ◌++◌, refl, sym, ap, arith, add-one, append_assoc, append-nil, length, length-append, length-drop, get_or, take, drop}
-use Rattle.std.proofs.lemmas.List.{drop-append-le, drop_all, get_or_append_left, get_or_push, take-append-le, take_all}
+use Rattle.std.proofs.lemmas.List.{drop-append-le, drop_all, get_or_append_left, take-append-le, take_all}
 use Rattle.std.proofs.lemmas.List.Elements.{All-weaker}
 use Rattle.std.specs.Prelude.{All}
 use Rattle.afr_plan.specs.declared.plan.Plan.{Plan}
@@ -79,24 +79,8 @@ pushed bytes cuts text bytes' cuts' end are b c e =
     let last : end ≡ length (bytes ++ text) = e ∙ ap length b in
     rw (c, b, last) (cuts_more cuts (length bytes) (length (bytes ++ text)) are (omega (arith, length-append bytes text)), texts_more bytes text cuts are)
 
--- ---- texts stay
-pub grows_none : (texts : List (List ℕ)) → Grows texts texts
-grows_none texts = record { more = []; is = sym (append-nil texts) }
-
-pub grows_on : {old mid new : List (List ℕ)} → Grows old mid → Grows mid new → Grows old new
-grows_on {old} g h = record { more = g.more ++ h.more; is = h.is ∙ ap (λ (t : List (List ℕ)). t ++ h.more) g.is ∙ append_assoc old g.more h.more }
-
 pub stays : {old new : List (List ℕ)} {number : ℕ} {text : List ℕ} → Grows old new → IsText old number text → IsText new number text
 stays {old} {new} {number} g t = record {
   within = rw g.is (omega (arith, length-append old g.more, t.within));
   is = rw g.is (get_or_append_left old g.more [] number t.within ∙ t.is);
 }
-
-pub newest : (old new : List (List ℕ)) (text : List ℕ) → new ≡ old ++ text ∷ [] → IsText new (length old) text
-newest old new text e = record {
-  within = rw e (omega (arith, length-append old (text ∷ [])));
-  is = rw e (get_or_push old text [] (length old) refl);
-}
-
-pub all_stay : (p : Plan) (old new : List (List ℕ)) (places : List Spelled) → Grows old new → All (IsSpelled p old) places → All (IsSpelled p new) places
-all_stay p old new places g all = All-weaker (IsSpelled p old) (IsSpelled p new) (λ last is. stays g is) places all

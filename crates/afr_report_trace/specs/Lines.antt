@@ -28,11 +28,6 @@ said_text p (line_of.Event event) = codes "event " ++ event_text event
 abbrev pub line_text : Plan → ℕ → Line → List ℕ
 line_text p position line = decimal position ++ codes " " ++ said_text p line ++ codes "\n"
 
--- the same of a line that may be there
-abbrev pub text_at : Plan → ℕ → Option Line → List ℕ
-text_at p position None = []
-text_at p position (Some line) = line_text p position line
-
 -- the text of a log: its lines, the oldest first
 abbrev pub trace_of : Plan → List Line → List ℕ
 trace_of p [] = []

@@ -5,17 +5,13 @@ use Rattle.afr_lines.specs.declared.line.Event.TheVariants.{Stop, Start, Cut, Jo
 use Rattle.afr_lines.specs.declared.line.Line.{Line}
 use Rattle.afr_plan.specs.declared.plan.Plan.{Plan}
 use Rattle.afr_session.specs.Calls.{only}
-use Rattle.afr_session.specs.Links.{cut_off, ended, epoch_met, joined, link_of, live_epoch}
+use Rattle.afr_session.specs.Links.{cut_off, ended, epoch_met, joined, link_of}
 use Rattle.afr_session.specs.declared.link.Link.{Link}
 use Rattle.afr_server.specs.Happening.{link_past}
 use Rattle.afr_server.proofs.LinkLemmas.{joined_reached}
 use Rattle.afr_server.specs.Log.{Finds, IsServed}
 use Rattle.afr_server.specs.Outcome.{link_served}
 use Rattle.afr_server.specs.Serving.{Serving}
-
--- what a meeting gives
-pub met_finds : (epoch : Option ℕ) (l : Link) → epoch ≡ live_epoch l → Finds epoch l
-met_finds epoch l e live = e ∙ rw live refl
 
 -- what a first line gives, after the request as well
 first_by : (lost started up live : Bool) (n : ℕ) → (live ≡ true → (started && up) ≡ true) → Finds (epoch_met started (record { up = up; live = live; opened = n })) (link_served true lost started (record { up = up; live = live; opened = n }))

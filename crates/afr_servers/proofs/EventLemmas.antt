@@ -13,9 +13,6 @@ pub record IsEventBelow (event : Event) (n : ℕ) (old new : List Serving) : Typ
   pub each : (b : ℕ) (s s' : Serving) → b < n → slice_get old b ≡ Some s → slice_get new b ≡ Some s' → IsEvent event b s s'
   pub others : (b : ℕ) → n ≤ b → slice_get new b ≡ slice_get old b
 
-pub event_none : (event : Event) (servers : List Serving) → IsEventBelow event 0 servers servers
-event_none event servers = record { count = refl; each = λ b s s' low h h'. absurd (omega (arith, low)); others = λ b low. refl }
-
 pub event_more : (event : Event) (n m : ℕ) (old now new : List Serving) (s s' : Serving) → m ≡ n + 1 → n < length now → slice_get now n ≡ Some s → new ≡ set now n s'
     → IsEvent event n s s' → IsEventBelow event n old now → IsEventBelow event m old new
 event_more event n m old now new s s' next low there is e so = record { count = rw (is, length-set now n s') so.count; each = each; others = others }

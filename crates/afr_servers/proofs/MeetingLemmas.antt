@@ -14,15 +14,6 @@ use Rattle.afr_servers.specs.Calls.{AsksFirst, IsMet, MeetsAll, MeetsBetween}
 use Rattle.afr_servers.specs.Found.{epoch_at}
 use Rattle.afr_servers.specs.declared.epochs.Epochs.{Epochs}
 
-pub met_none : (a : ActorId) (from : ℕ) (servers : List Serving) (epochs : Epochs) → MeetsBetween a from from servers servers epochs epochs
-met_none a from servers epochs = record {
-  count = refl;
-  meets = λ y s s' low high h h'. absurd (omega (arith, low, high));
-  epochs = λ y s low high h. absurd (omega (arith, low, high));
-  others = λ y out. refl;
-  kept = λ y out. refl;
-}
-
 pub met_more : (a : ActorId) (from n m : ℕ) (old now new : List Serving) (before mid after : Epochs) (s s' : Serving) (epoch : Option ℕ)
     → m ≡ n + 1 → from ≤ n → n < length now → n < length mid.of → slice_get now n ≡ Some s → new ≡ set now n s' → after.of ≡ set mid.of n epoch → IsMet a s s' → epoch ≡ epoch_of a s
     → MeetsBetween a from n old now before mid → MeetsBetween a from m old new before after
@@ -69,14 +60,6 @@ met_more a from n m old now new before mid after s s' epoch next start low five 
 
     kept : (y : ℕ) → (y < from) ⊎ (m ≤ y) → epoch_at y after ≡ epoch_at y before
     kept y o = let p = out y o in found_passed y p.0 ∙ so.kept y p.1
-
--- all bricks
-pub met_all : (a : ActorId) (n : ℕ) (old new : List Serving) (before after : Epochs) → n ≡ length old → MeetsBetween a 0 n old new before after → MeetsAll a old new after
-met_all a n old new before after whole so = record {
-  count = so.count;
-  meets = λ y s s' h h'. so.meets y s s' (omega arith) (omega (arith, whole, slice_get_within old y s h)) h h';
-  found = λ y s h. so.epochs y s (omega arith) (omega (arith, whole, slice_get_within old y s h)) h;
-}
 
 -- one brick serves the first line of a work; then the bricks before it are met, and those after it
 pub met_others : (a : ActorId) (b n : ℕ) (request : Request) (load : Load) (old asked between new : List Serving) (none first half last : Epochs) (s s' : Serving) (epoch : Option ℕ) (given : Served)

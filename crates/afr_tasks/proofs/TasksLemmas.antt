@@ -4,6 +4,7 @@ use Rattle.std.specs.Prelude.{Contains}
 use Rattle.std.proofs.lemmas.Bool.{eqb-true}
 use Rattle.std.proofs.lemmas.Bool.Decides.{nat_tests}
 use Rattle.std.proofs.lemmas.List.{append-nil}
+use Rattle.afr_base.specs.Kinds.{same_what}
 use Rattle.afr_base.specs.declared.ids.Gfid.{Gfid}
 use Rattle.afr_base.specs.declared.ids.What.{What}
 use Rattle.afr_base.specs.declared.ids.What.TheVariants.{Dir, File}
@@ -96,10 +97,6 @@ pub takes_only : (w : Hand) (taken : List Task) → w ≡ hand 1 [] taken → w 
 takes_only w taken e = e ∙ ap (λ (x : Hand). hand 1 [] x.taken) (sym e)
 
 -- ---- a task that was taken was put
-abbrev same_what : What → What → Bool
-same_what File File = true
-same_what Dir Dir = true
-same_what what other = false
 
 abbrev same_task : Task → Task → Bool
 same_task (Heal g what) (Heal k other) = (g.0 == k.0) && same_what what other

@@ -1,4 +1,4 @@
-//! Tests of the judges of traces: what the check finds, and how far a log keeps the discipline.
+//! Tests of what the check finds of a trace.
 #![tactic(auto)]
 
 #[cfg(test)]

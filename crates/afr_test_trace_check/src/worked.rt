@@ -154,31 +154,6 @@ const LOST_ANSWER_TRACE: &str = "\
 87 h1 end ok
 ";
 
-const MOVED: &str = "\
-afr 1
-volume replica
-files 1
-turns 100000
-client 1
-rename /f1 /g
-end
-";
-
-/// A rename as far as it makes the new name.
-const MOVED_TRACE: &str = "\
-0 c1 b0 look g1 seen
-1 c1 b1 look g1 seen
-2 c1 b2 look g1 seen
-3 c1 b0 name g1/f1 ok
-4 c1 b0 lock g1/g granted
-5 c1 b1 lock g1/g granted
-6 c1 b2 lock g1/g granted
-7 c1 b0 look g1 seen
-8 c1 b1 look g1 seen
-9 c1 b2 look g1 seen
-10 c1 b0 name g1/g ok
-";
-
 pub fn write_and_read() -> &'static str {
     WRITE_AND_READ
 }
@@ -193,12 +168,4 @@ pub fn lost_answer() -> &'static str {
 
 pub fn lost_answer_trace() -> &'static str {
     LOST_ANSWER_TRACE
-}
-
-pub fn moved() -> &'static str {
-    MOVED
-}
-
-pub fn moved_trace() -> &'static str {
-    MOVED_TRACE
 }

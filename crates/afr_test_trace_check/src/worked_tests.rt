@@ -1,11 +1,8 @@
-//! Worked traces are right whole and keep the discipline; a line that breaks a rule is found. A plan past the limit isn't checked.
+//! Worked traces are right whole; a line that breaks a rule is found. A plan past the limit isn't checked.
 
-use crate::built::{ended_by, is_found, log_of, plan_of};
-use crate::worked::{
-    lost_answer, lost_answer_trace, moved, moved_trace, write_and_read, write_and_read_trace,
-};
+use crate::built::{ended_by, is_found};
+use crate::worked::{lost_answer, lost_answer_trace, write_and_read, write_and_read_trace};
 use afr_trace_check::{CheckStop, Finding, Rule};
-use afr_trace_moves::{first_unlawful, makes_new_alone};
 use std::alloc::Global;
 use std::test::Fail;
 
@@ -77,66 +74,6 @@ fn a_file_may_end_at_1024_and_not_past_it(rt: HostRuntime) -> Result<(), Fail> {
     ] {
         let is_past = is_past_limit(rt.alloc(), command)?;
         assert!(rt; is_past == past, "{command}");
-    }
-    Ok(())
-}
-
-/// Whether the first line that breaks the discipline is the one at this position, and what is made is new where this says so.
-fn breaks_at(alloc: Global, plan: &str, trace: &str, at: usize, new: bool) -> Result<bool, Fail> {
-    let plan = plan_of(alloc, plan)?;
-    let log = log_of(alloc, &plan, trace)?;
-    let first = first_unlawful(alloc, &plan, log.as_slice());
-    Ok(makes_new_alone(log.as_slice()) == new && first == Ok(at))
-}
-
-/// The same of the first lines of a trace, with another line behind them.
-fn ended_breaks_at(
-    alloc: Global,
-    plan: &str,
-    trace: &str,
-    lines: usize,
-    last: &str,
-    at: usize,
-    new: bool,
-) -> Result<bool, Fail> {
-    let trace = ended_by(alloc, trace, lines, last)?;
-    breaks_at(alloc, plan, trace.as_str(), at, new)
-}
-
-#[test]
-fn each_line_of_a_worked_trace_keeps_the_discipline(rt: HostRuntime) -> Result<(), Fail> {
-    let plan = write_and_read();
-    let write = breaks_at(rt.alloc(), plan, write_and_read_trace(), 33, true)?;
-    assert!(rt; write);
-    let heal = breaks_at(rt.alloc(), lost_answer(), lost_answer_trace(), 88, true)?;
-    assert!(rt; heal);
-    Ok(())
-}
-
-/// A command that closes its write at one brick, and a heal that takes back what it hasn't seen.
-#[test]
-fn a_line_that_breaks_the_discipline_is_found(rt: HostRuntime) -> Result<(), Fail> {
-    let (plan, trace) = (write_and_read(), write_and_read_trace());
-    let write = ended_breaks_at(rt.alloc(), plan, trace, 18, "18 c1 end ok", 18, true)?;
-    assert!(rt; write);
-    let (plan, trace) = (lost_answer(), lost_answer_trace());
-    let more = "78 h1 b1 settle f1 data 1 0 0 2 done";
-    let heal = ended_breaks_at(rt.alloc(), plan, trace, 78, more, 78, true)?;
-    assert!(rt; heal);
-    Ok(())
-}
-
-/// A name that is made leads to a new object, or to one that its command read.
-#[test]
-fn a_made_gfid_is_new_or_was_read(rt: HostRuntime) -> Result<(), Fail> {
-    for (text, first, new) in [
-        ("11 c1 begin create g1/g g13", 12, true),
-        ("11 c1 begin create g1/g g12", 11, false),
-        ("11 c1 begin create g1/g f1", 12, false),
-        ("11 c1 begin mkdir g1/g f1", 11, false),
-    ] {
-        let kept = ended_breaks_at(rt.alloc(), moved(), moved_trace(), 11, text, first, new)?;
-        assert!(rt; kept, "{text}");
     }
     Ok(())
 }

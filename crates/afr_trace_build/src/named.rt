@@ -1,16 +1,13 @@
 //! What a line names, and whether the plan and the lines before it have it.
 ghost use Rattle.std.specs.Prelude.{◌≡◌, ◌<◌, ◌≤◌, reverse};
 ghost use Rattle.std.specs.Option.{option_copied};
-ghost use Rattle.afr_lines.specs.Areas.{kind_for};
 ghost use Rattle.afr_model.specs.Actors.{works_of};
-ghost use Rattle.afr_object.specs.Tables.{object_of};
 ghost use Rattle.afr_trace_build.specs.Filling.{has_work, is_event_of, is_heal_end, present};
 ghost use Rattle.afr_trace_build.specs.Requests.{asks_for, is_actor, is_answer, is_attrs_read, is_brick, is_read, listed_brick};
 
 use crate::earlier::ended;
-use afr_base::{ActorId, BrickId, Gfid, Kind};
+use afr_base::{ActorId, BrickId};
 use afr_lines::{Event, Line, Request};
-use afr_object::Change;
 use afr_plan::{Command, Plan};
 use afr_trace_read::{Answered, Healed};
 
@@ -160,29 +157,5 @@ pub(crate) fn listed_brick(line: Option<&Line>) -> Option<u8>
             },
         ) => Some(brick.0),
         _ => None,
-    }
-}
-
-pub(crate) fn object_of(change: &Change) -> Gfid
-    ensures { result ≡ object_of change.now }
-{
-    match change {
-        Change::Write { gfid, .. } => *gfid,
-        Change::Cut { gfid, .. } => *gfid,
-        Change::SetAttr { gfid, .. } => *gfid,
-        Change::Make { dir, .. } => *dir,
-        Change::Remove { dir, .. } => *dir,
-    }
-}
-
-pub(crate) fn kind_for(change: &Change) -> Kind
-    ensures { result ≡ kind_for change.now }
-{
-    match change {
-        Change::Write { .. } => Kind::Bytes,
-        Change::Cut { .. } => Kind::Bytes,
-        Change::SetAttr { .. } => Kind::Attrs,
-        Change::Make { .. } => Kind::Names,
-        Change::Remove { .. } => Kind::Names,
     }
 }

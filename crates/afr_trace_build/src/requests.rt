@@ -7,12 +7,11 @@ ghost use Rattle.afr_trace_build.specs.Requests.{area_from, asks_for, flagged_br
 ghost use Rattle.afr_trace_build.specs.Requests as spec;
 ghost use Rattle.afr_trace_build.specs.Shown.{len_in};
 
-use crate::earlier::{change_at, line_at};
-use crate::named::{is_attrs_read, is_brick, is_read, kind_for, listed_brick, object_of};
+use crate::named::{is_attrs_read, is_brick, is_read, listed_brick};
 use crate::showing::{Shown, len_in, view_in};
 use afr_base::{BrickId, BrickSet, FIRST_ATTRIBUTE, Gfid, LONGEST_FILE};
-use afr_lines::{Area, Line, Request, Told};
-use afr_object::{Change, Repair};
+use afr_lines::{Area, Line, Request, Told, change_at, kind_for, line_at};
+use afr_object::{Change, Repair, object_of};
 use afr_plan::Plan;
 use afr_trace_read::{Answered, Span, SpelledRequest};
 
@@ -96,7 +95,7 @@ fn placed_reads(log: &[Line], reads: &[Option<u32>; 5]) -> Option<[Option<u32>; 
     let mut rest: &[Option<u32>] = reads.as_slice();
     while let [read, more @ ..] = rest {
         if let Some(position) = read {
-            let brick = listed_brick(line_at(log, *position))?;
+            let brick = listed_brick(line_at(log, *position as usize))?;
             if brick < next || brick >= 5 {
                 return None;
             }
@@ -120,7 +119,7 @@ fn put_names(log: &[Line], gfid: Gfid, reads: &[Option<u32>; 5]) -> Option<Reque
 fn put_attrs(log: &[Line], gfid: Gfid, read: u32) -> Option<Request>
     ensures { result ≡ checked (asks_for spec.is_attrs_read (from_oldest read (reverse log.now))) (Request.Mend (Repair.PutAttrs gfid read)) }
 {
-    if !is_attrs_read(line_at(log, read)) {
+    if !is_attrs_read(line_at(log, read as usize)) {
         return None;
     }
     Some(Request::Mend {
@@ -132,7 +131,7 @@ fn put_attrs(log: &[Line], gfid: Gfid, read: u32) -> Option<Request>
 fn copy(log: &[Line], shown: &Shown, gfid: Gfid, at: u32, span: u32, read: u32) -> Option<Request>
     ensures { result ≡ checked (asks_for spec.is_read (from_oldest read (reverse log.now)) && nat_le (at + span) 1048576 && nat_le (len_in shown.now) span) (Request.Mend (Repair.Copy gfid at span read)) }
 {
-    let fits = is_read(line_at(log, read))
+    let fits = is_read(line_at(log, read as usize))
         && u64::from(at) + u64::from(span) <= u64::from(LONGEST_FILE)
         && len_in(shown) <= span;
     if !fits {
@@ -151,7 +150,7 @@ fn copy(log: &[Line], shown: &Shown, gfid: Gfid, at: u32, span: u32, read: u32) 
 fn apply(log: &[Line], attempt: u32) -> Option<Request>
     ensures { result ≡ option_map (λ change. Request.Apply attempt) (change_at attempt (reverse log.now)) }
 {
-    match change_at(log, attempt) {
+    match change_at(log, attempt as usize) {
         Some(_) => Some(Request::Apply { attempt }),
         None => None,
     }
@@ -200,7 +199,7 @@ pub(crate) fn request_from(
         }),
         SpelledRequest::Apply { attempt } => apply(log, *attempt),
         SpelledRequest::Post { attempt, missed } => {
-            post_from(plan, *attempt, missed, change_at(log, *attempt))
+            post_from(plan, *attempt, missed, change_at(log, *attempt as usize))
         }
         SpelledRequest::CutTo { gfid, len } => Some(Request::Mend {
             repair: Repair::CutTo {

@@ -1,12 +1,12 @@
 -- What is found of a trace, by the log that its lines have built so far.
 use Rattle.std.proofs.Common.{◌≡◌, ◌∙◌, ◌↔◌, ℕ, zero, suc, ◌+◌, ◌<◌, ◌≤◌, Bool, true, false, List, [], ◌∷◌, ◌++◌, Option, Some, None, IfNone, IfSome, length, drop, get_or, IfOk, Result, map, reverse, refl, sym, ap, subst, arith, add-one, append_assoc, if◌then◌else◌}
-use Rattle.std.proofs.lemmas.List.{length-reverse, reverse-append, reverse-reverse}
+use Rattle.std.proofs.lemmas.List.{length-reverse, reverse-append}
 use Rattle.std.proofs.lemmas.Option.{same_Some}
 use Rattle.afr_lines.specs.Log.{EveryPrefix}
 use Rattle.afr_lines.specs.declared.line.Line.{Line}
 use Rattle.afr_model.specs.Safe.{IsSafe}
 use Rattle.afr_plan.specs.declared.plan.Plan.{Plan}
-use Rattle.afr_trace_build.specs.Built.{Built, End, NoLine, OtherWords, Whole, and_on, built, built_on, end_of}
+use Rattle.afr_trace_build.specs.Built.{Built, End, NoLine, OtherWords, Whole, and_on, built_on, end_of}
 use Rattle.afr_trace_build.specs.Filling.{fill}
 use Rattle.afr_trace_build.specs.declared.filling.Filled.{Filled}
 use Rattle.afr_trace_build.specs.declared.filling.Filled.TheVariants as filled
@@ -22,14 +22,9 @@ use Rattle.afr_trace_follow.specs.Planned.{IsPlanned}
 use Rattle.afr_trace_safe.specs.Touched.{WasSafe, touched}
 use Rattle.afr_trace_check.specs.Taken.{BreaksOne, IsOutcomeOf, KeepsRules}
 use Rattle.afr_trace_read.specs.Seen.{seen_line}
-use Rattle.afr_trace_read.specs.Trace.{Told, trace_told}
+use Rattle.afr_trace_read.specs.Trace.{Told}
 use Rattle.afr_trace_read.specs.declared.kinds.TraceLine.{TraceLine}
 use Rattle.afr_trace_read.specs.declared.trace.SpelledLine.{SpelledLine}
-
--- ---- logs that are right
--- the log before the first line
-pub right_first : (p : Plan) → IsSafe p [] → EveryPrefix (IsRight p) []
-right_first p safe = record { follows = tt; honest = tt; blamed = tt; safe = safe }
 
 pub right_now : (p : Plan) (log : List Line) → EveryPrefix (IsRight p) log → IsRight p log
 right_now p [] all = all
@@ -40,10 +35,6 @@ pub right_next : (p : Plan) (l : Line) (older : List Line) → EveryPrefix (IsRi
 right_next p l older all follows honest blamed safe =
     let was = right_now p older all in
     (record { follows = (follows, was.follows); honest = (honest, was.honest); blamed = (blamed, was.blamed); safe = safe }, all)
-
--- one that breaks a rule
-pub breaks_follows : (p : Plan) (l : Line) (older : List Line) → (IsPlanned p l older → ⊥) → BreaksFirst p (l ∷ older) rule.Follows
-breaks_follows p l older never = λ follows. never follows.0
 
 pub breaks_honest : (p : Plan) (l : Line) (older : List Line) → EveryPrefix (IsRight p) older → IsPlanned p l older → (IsHonestBySums p l older → ⊥) → BreaksFirst p (l ∷ older) rule.Honest
 breaks_honest p l older all follows never = ((follows, (right_now p older all).follows), λ honest. never honest.0)
@@ -65,12 +56,6 @@ extends p broken (x ∷ xs) older = by (fill p older x) (λ l. extends p broken 
     by (filled.Stands l) more = let r = more l in (r.0 ++ l ∷ [], rw append_assoc r.1)
     by filled.NoLine more = ([], refl)
     by filled.OtherWords more = ([], refl)
-
--- the lines that were read, with none built yet
-pub starts : (p : Plan) (text : List ℕ) (xs : List (TraceLine × List ℕ)) (broken : Bool) (told : Told) → told ≡ trace_told p text → told.lines ≡ reverse xs → told.broken ≡ broken → built p text ≡ built_on p broken xs []
-starts p text xs broken told e lines b =
-    ap (λ (t : Told). built_on p t.broken (reverse t.lines) []) (sym e) ∙ ap (λ (f : Bool). built_on p f (reverse told.lines) []) b
-    ∙ ap (λ (ys : List (TraceLine × List ℕ)). built_on p broken ys []) (ap (λ (ys : List (TraceLine × List ℕ)). reverse ys) lines ∙ reverse-reverse xs)
 
 -- one line more
 pub builds : (p : Plan) (whole : Built) (broken : Bool) (x : TraceLine × List ℕ) (xs : List (TraceLine × List ℕ)) (older : List Line) (f : Filled) → f ≡ fill p older x → whole ≡ built_on p broken (x ∷ xs) older

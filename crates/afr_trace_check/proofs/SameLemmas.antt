@@ -1,7 +1,7 @@
 -- Two sets are the same where their first bricks are, and the rest.
 use Rattle.std.proofs.Common.{◌≡◌, ◌∙◌, ◌⊎◌, inl, inr, ℕ, zero, suc, ◌+◌, ◌<◌, ◌≤◌, ◌==◌, ◌&&◌, ◌||◌, Bool, true, false, List, [], ◌∷◌, length, refl, sym, ap, subst, arith, if◌then◌else◌}
 use Rattle.std.proofs.lemmas.Bool.Decides.{eqb_tells, nat_tests}
-use Rattle.afr_base.specs.Bricks.{is_nothing, lowest, member, removed, same}
+use Rattle.afr_base.specs.Bricks.{is_nothing, lowest, member, removed}
 use Rattle.afr_base.specs.Majority.{count_below}
 use Rattle.afr_base.specs.SetLemmas.{count_same}
 
@@ -71,18 +71,3 @@ rest_is [] left b some e all m = absurd (cc some)
 rest_is (x ∷ xs) left b some e all m =
     let rest : left ≡ xs = m ∙ ap (λ (y : ℕ). removed y (x ∷ xs)) e ∙ first_out x xs ∙ not_removed x xs (once 5 x xs all) in
     rw (e, rest) refl
-
--- ---- the same
--- of two sets one of which has no brick
-pub none_same : (s t : List ℕ) → is_nothing s ≡ true → is_nothing t ≡ same s t
-none_same [] [] h = refl
-none_same [] (y ∷ ys) h = refl
-none_same (x ∷ xs) t h = absurd (cc h)
-
-pub some_same : (s t : List ℕ) → is_nothing s ≡ false → is_nothing t ≡ true → false ≡ same s t
-some_same [] t h k = absurd (cc h)
-some_same (x ∷ xs) [] h k = refl
-some_same (x ∷ xs) (y ∷ ys) h k = absurd (cc k)
-
-pub both_same : (s t less fewer : List ℕ) (b c : ℕ) (more : Bool) → s ≡ b ∷ less → t ≡ c ∷ fewer → more ≡ same less fewer → ((b == c) && more) ≡ same s t
-both_same s t less fewer b c more e f g = rw (e, f, g) refl

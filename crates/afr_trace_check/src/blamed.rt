@@ -17,14 +17,12 @@ ghost use Rattle.afr_trace_tally.specs.Tally.{AreKnown, AsksKnown};
 
 use crate::honest::both;
 use crate::showing::looked_after;
-use crate::told::object_of;
-use afr_base::{ActorId, BrickId, BrickSet, Gfid, Kind, Shape};
+use afr_base::{ActorId, BrickId, BrickSet, Gfid, Kind, Shape, same_kind};
 use afr_choice::{Looked, good};
-use afr_lines::{Line, Request, Told};
-use afr_object::Change;
+use afr_lines::{Line, Request, Told, change_of, is_end, is_of, kind_for};
+use afr_object::{Change, object_of};
 use afr_plan::Plan;
 use afr_trace_follow::{object_of_area, work_start};
-use afr_trace_tally::{change_of, is_end, is_of};
 
 // ---- the attempt
 
@@ -98,28 +96,6 @@ fn change_after<'a>(change: Option<&'a Change>, was: Option<&'a Change>) -> Opti
     match change {
         Some(change) => Some(change),
         None => was,
-    }
-}
-
-fn kind_for(change: &Change) -> Kind
-    ensures { result ≡ kind_for change.now }
-{
-    match change {
-        Change::Write { .. } => Kind::Bytes,
-        Change::Cut { .. } => Kind::Bytes,
-        Change::SetAttr { .. } => Kind::Attrs,
-        Change::Make { .. } => Kind::Names,
-        Change::Remove { .. } => Kind::Names,
-    }
-}
-
-fn same_kind(one: Kind, other: Kind) -> bool
-    ensures { result ≡ same_kind one other }
-{
-    match one {
-        Kind::Bytes => matches!(other, Kind::Bytes),
-        Kind::Attrs => matches!(other, Kind::Attrs),
-        Kind::Names => matches!(other, Kind::Names),
     }
 }
 

@@ -15,13 +15,13 @@ ghost use Rattle.afr_trace_tally.specs.Tally.{AreKnown, AsksKnown, IsTally};
 use crate::told::view_shown;
 use afr_base::{ActorId, BrickId, Gfid, NoMemory};
 use afr_choice::Looked;
-use afr_lines::{Domain, Line, Request, Told};
+use afr_lines::{Domain, Line, Request, Told, is_end, is_of};
 use afr_object::{List, NameList, View};
 use afr_plan::Plan;
 use afr_trace_build::Shown;
 use afr_trace_follow::object_of_area;
 use afr_trace_read::{Answered, Doing, Healed, SpelledReply, SpelledRequest, TraceLine};
-use afr_trace_tally::{Tally, is_end, is_of};
+use afr_trace_tally::Tally;
 use std::alloc::Global;
 
 // ---- the last looks of a work

@@ -12,10 +12,10 @@ ghost use Rattle.afr_trace_check.specs.Honest.{look_told, told_by_sums};
 ghost use Rattle.afr_trace_tally.specs.Tally.{IsTally};
 
 use afr_base::{ActorId, AllMarks, BrickId, Gfid, Kind, What};
-use afr_lines::{Line, Request, Told};
-use afr_object::{Change, Repair, View};
+use afr_lines::{Line, Request, Told, change_at};
+use afr_object::{Repair, View, object_of};
 use afr_plan::Plan;
-use afr_trace_tally::{Tally, change_at};
+use afr_trace_tally::Tally;
 
 /// What a request is told that the brick carries out.
 pub(crate) fn told(
@@ -146,19 +146,6 @@ fn apply_told(
     match change_at(log, attempt as usize) {
         Some(change) => if_there(tally, plan, log, b, object_of(change), Told::Done),
         None => Told::NoObject,
-    }
-}
-
-/// The object that a change is of: for a name, its directory.
-pub(crate) fn object_of(change: &Change) -> Gfid
-    ensures { result ≡ object_of change.now }
-{
-    match change {
-        Change::Write { gfid, .. } => *gfid,
-        Change::Cut { gfid, .. } => *gfid,
-        Change::SetAttr { gfid, .. } => *gfid,
-        Change::Make { dir, .. } => *dir,
-        Change::Remove { dir, .. } => *dir,
     }
 }
 

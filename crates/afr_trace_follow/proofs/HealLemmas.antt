@@ -111,9 +111,6 @@ same_due one other x e = (λ h. sym e ∙ h, λ h. e ∙ h)
 pub pair_due : (object g : Gfid) (within kind : Kind) → ((object ≡ g) × (within ≡ kind) → ◌≡◌ {A = Option (Gfid × Kind)} (Some (object, within)) (Some (g, kind))) × (◌≡◌ {A = Option (Gfid × Kind)} (Some (object, within)) (Some (g, kind)) → (object ≡ g) × (within ≡ kind))
 pair_due object g within kind = (λ k. rw (k.0, k.1) refl, λ e. some_pair_parts object g within kind e)
 
-pub no_due : (g : Gfid) (kind : Kind) → ◌≡◌ {A = Option (Gfid × Kind)} None (Some (g, kind)) → ⊥
-no_due g kind e = absurd (cc e)
-
 pub heal_here : (list : List (Gfid × What)) (w : Work) (asked : Request) (due : Option (Gfid × Kind)) (object g : Gfid) (kind : Kind) → due ≡ Some (object, kind) → due ≡ due_in list w → object_healed asked ≡ Some g
     → (object ≡ g → IsOfHeal list asked w) × (IsOfHeal list asked w → object ≡ g)
 heal_here list w asked due object g kind h e about = (

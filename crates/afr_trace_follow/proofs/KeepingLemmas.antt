@@ -42,10 +42,6 @@ both r s t P Q e hs ht = (λ yes. go s t hs ht (sym e ∙ yes), λ h. e ∙ back
     back : s ≡ true → t ≡ true → (s && t) ≡ true
     back h k = rw (h, k) refl
 
-pub is_not : (b : Bool) → (not b ≡ true) ↔ (b ≡ false)
-is_not true = (λ h. absurd (cc h), λ h. absurd (cc h))
-is_not false = (λ h. refl, λ h. refl)
-
 -- the same of something that is there
 pub some_as_well : {A : Type 0} (x y : A) → (x ≡ y → Some x ≡ Some y) × (Some x ≡ Some y → x ≡ y)
 some_as_well x y = (λ e. ap Some e, λ e. same_Some x y e)

@@ -30,10 +30,6 @@ newest log at line l e =
 pub length_before : (log : List Line) (at : ℕ) → at ≤ length log → at ≡ length (reverse (take at log))
 length_before log at l = omega (arith, length-reverse (take at log), length-take at log)
 
--- what holds of all of them, of none, and of one more
-pub whole : {A : Type 0} (F : List Line → A) (log : List Line) (at : ℕ) (x : A) → length log ≤ at → x ≡ F (reverse (take at log)) → x ≡ F (reverse log)
-whole F log at x long h = h ∙ ap (λ (t : List Line). F (reverse t)) (take_all at log long)
-
 pub of_whole : (P : List Line → Type 0) (log : List Line) (at : ℕ) → length log ≤ at → P (reverse (take at log)) → P (reverse log)
 of_whole P log at long h = subst (λ (t : List Line). P (reverse t)) (take_all at log long) h
 

@@ -1,6 +1,5 @@
 -- Where lines stand, one line more.
 use Rattle.std.proofs.Common.{◌≡◌, ◌∙◌, ℕ, ◌+◌, ◌<◌, ◌≤◌, ◌||◌, Bool, false, List, [], ◌∷◌, ◌++◌, length, take, reverse, get_or, sym, ap, subst, arith, append-nil}
-use Rattle.std.proofs.lemmas.List.{length-take}
 use Rattle.afr_lines.specs.Work.{Work, work}
 use Rattle.afr_lines.specs.declared.line.Line.{Line}
 use Rattle.afr_model.specs.Showing.{Path, At, begins_attempt, path_after, root_entry}
@@ -46,10 +45,3 @@ lines_upto P a from log at upto w e h = subst (λ (n : ℕ). P (lines_from a fro
 pub of_work : (P : Work → Type 0) (a start : ℕ) (log : List Line) → start ≡ work_start a log → P (lines_from a start log ++ []) → P (work a log)
 of_work P a start log e h =
     subst P (append-nil (lines_from a start log) ∙ ap (λ (n : ℕ). lines_from a n log) e ∙ start_work a log) h
-
--- the lines from a position on are a part of a work
-pub of_lines : (P : Work → Type 0) (a from : ℕ) (log : List Line) (w v : Work) → lines_from a from log ≡ v → P (lines_from a from log ++ w) → P (v ++ w)
-of_lines P a from log w v e h = subst (λ (u : Work). P (u ++ w)) e h
-
-pub few_of_taken : (log : List Line) (upto : ℕ) → length log < 2147483648 → length (take upto log) < 2147483648
-few_of_taken log upto l = omega (arith, l, length-take upto log)

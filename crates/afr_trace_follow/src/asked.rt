@@ -11,10 +11,10 @@ ghost use Rattle.afr_trace_tally.specs.Tally.{IsTally};
 use crate::parts::work_start;
 use crate::stand::begins_attempt;
 use afr_base::{ActorId, Gfid, What};
-use afr_lines::{Line, Request, Told};
+use afr_lines::{Line, Request, Told, is_end, is_of};
 use afr_object::Entry;
 use afr_plan::Plan;
-use afr_trace_tally::{Tally, is_end, is_of};
+use afr_trace_tally::Tally;
 
 /// How many names a work has asked, where it asked one of them and what it was given for it, and how many attempts it has begun.
 #[derive(Clone, Copy)]

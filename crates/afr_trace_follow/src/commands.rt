@@ -8,7 +8,7 @@ ghost use Rattle.afr_trace_follow.specs.Seen.{path_seen};
 
 use crate::facts::{both, same_gfid, same_number};
 use crate::path::Path;
-use afr_base::{Gfid, KeyId, NameId, ValueId, What};
+use afr_base::{Gfid, KeyId, NameId, ValueId, What, same_what};
 use afr_object::{Change, Chunk};
 use afr_plan::{Command, NamePath};
 
@@ -135,15 +135,6 @@ fn is_set_attr(change: &Change, g: Gfid, key: KeyId, value: ValueId) -> bool
             both(within, same_value(*given, value))
         }
         _ => false,
-    }
-}
-
-fn same_what(one: What, other: What) -> bool
-    ensures { (result ≡ true) ↔ (one ≡ other) }
-{
-    match one {
-        What::File => matches!(other, What::File),
-        What::Dir => matches!(other, What::Dir),
     }
 }
 

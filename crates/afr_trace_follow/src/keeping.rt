@@ -20,9 +20,9 @@ use crate::facts::{both, is_not};
 use crate::path::Path;
 use crate::stand::{Stand, stand_of};
 use afr_base::{ActorId, NameId};
-use afr_lines::{Line, Request};
+use afr_lines::{Line, Request, change_of};
 use afr_plan::{Command, Plan};
-use afr_trace_tally::{Tally, change_of};
+use afr_trace_tally::Tally;
 
 /// Whether a line reads the next of these names, begins what it may begin, or does neither.
 pub(crate) fn keeps_by(line: &Line, path: Path, names: &[NameId], begins: bool) -> bool

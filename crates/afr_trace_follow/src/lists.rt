@@ -10,10 +10,10 @@ ghost use Rattle.afr_trace_tally.specs.Tally.{AsksKnown, IsTally};
 
 use crate::marked::marked_on;
 use afr_base::{ActorId, BrickId, Gfid, NoMemory, What};
-use afr_lines::{Line, Request, Told};
+use afr_lines::{Line, Request, Told, is_end, is_of};
 use afr_object::{IndexList, List};
 use afr_plan::Plan;
-use afr_trace_tally::{Tally, is_end, is_of};
+use afr_trace_tally::Tally;
 use std::alloc::Global;
 
 /// The list of each healer's present round.

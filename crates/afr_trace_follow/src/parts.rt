@@ -3,8 +3,7 @@ ghost use Rattle.std.specs.Prelude.{◌≡◌, reverse};
 ghost use Rattle.afr_trace_follow.specs.Parts.{work_start};
 
 use afr_base::ActorId;
-use afr_lines::Line;
-use afr_trace_tally::ends_work;
+use afr_lines::{Line, ends_work};
 
 /// Where the present work begins: after its last End line, which is looked for from the newest line on.
 pub fn work_start(log: &[Line], a: ActorId) -> usize

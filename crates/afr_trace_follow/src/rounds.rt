@@ -13,9 +13,8 @@ ghost use Rattle.afr_trace_follow.specs.Turns.{AsksIndex, HealsInTurn, KeepsToLi
 
 use crate::facts::{both, same_brick, same_gfid};
 use crate::parts::work_start;
-use afr_base::{ActorId, BrickId, Gfid, Kind, What};
-use afr_lines::{Area, Domain, Line, Request};
-use afr_trace_tally::{is_end, is_of};
+use afr_base::{ActorId, BrickId, Gfid, Kind, What, same_kind};
+use afr_lines::{Area, Domain, Line, Request, is_end, is_of};
 
 // ---- the heals of a list
 
@@ -145,16 +144,6 @@ fn object_locked(request: &Request) -> Option<Gfid>
             area,
         } => Some(object_of_area(area)),
         _ => None,
-    }
-}
-
-fn same_kind(one: Kind, other: Kind) -> bool
-    ensures { (result ≡ true) ↔ (one ≡ other) }
-{
-    match one {
-        Kind::Bytes => matches!(other, Kind::Bytes),
-        Kind::Attrs => matches!(other, Kind::Attrs),
-        Kind::Names => matches!(other, Kind::Names),
     }
 }
 

@@ -13,10 +13,10 @@ use crate::facts::either;
 use crate::parts::work_start;
 use crate::path::{Path, at_root, kept_at, path_shown};
 use afr_base::ActorId;
-use afr_lines::Line;
+use afr_lines::{Line, is_of};
 use afr_object::Entry;
 use afr_plan::Plan;
-use afr_trace_tally::{Tally, is_of};
+use afr_trace_tally::Tally;
 
 /// Where lines stand on their path, after all names that they read and after the first of them, and whether they have begun an attempt.
 #[derive(Clone, Copy)]

@@ -63,9 +63,6 @@ stat_was p text e =
     let u = whole-takes stat_at _ _ (stat-takes p) text s.0 s.1 in
     (good.Stat s.0.0 s.0.1, u.0, u.1)
 
-names_end : (s : List ℕ) (l : List (List ℕ)) → drop 2 (names_text (s ∷ l)) ≡ spaced (s ∷ l)
-names_end s l = refl
-
 list_was : (p : Plan) (text : List ℕ) (names : List NameId) → AreRising p None names → text ≡ spaced (texts_of p names) → WasGiven p text
 list_was p text [] r e = (good.Done, tt, e)
 list_was p text (name ∷ names) r e =

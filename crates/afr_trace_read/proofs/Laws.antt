@@ -159,8 +159,3 @@ whole-takes {A} r T Ok t line x e =
     let same : line ≡ T s.0.0 = v.1 ∙ ap (λ (z : List ℕ). T s.0.0 ++ z) u.1 ∙ append-nil (T s.0.0) in
     let P : A → Type 0 = λ y. Ok y × (line ≡ T y) in
     subst P u.0 (v.0, same)
-
-pub whole-again : {A : Type 0} (r : Reader A) (T : A → List ℕ) (Ok : A → Type 0) (Next : List ℕ → Type 0) → Again r T Ok Next → Next [] → (x : A) → Ok x → whole r (T x) ≡ Some x
-whole-again {A} r T Ok Next t n x ok =
-    let e : r (T x) ≡ Some (x, []) = ap r (sym (append-nil (T x))) ∙ t.read x [] ok n in
-    rw e refl

@@ -104,10 +104,6 @@ pub no_name : (p : Plan) (last : Option NameId) (rest : List ℕ) → None ≡ n
 no_name p last [] e some = absurd (omega (arith, some))
 no_name p last (b ∷ bs) e some = ap (λ (o : Option (NameId × List ℕ)). is_some (and_more o (λ next rest. names_on p (length bs) (Some next) rest))) (sym e)
 
-pub no_more : (p : Plan) (last : Option NameId) (rest : List ℕ) → length rest ≡ 0 → is_some (names_told p last rest) ≡ true
-no_more p last [] e = refl
-no_more p last (b ∷ bs) e = absurd (omega (arith, e))
-
 -- ---- what is read
 -- each comes after the one before
 abbrev pub AreRising : Plan → Option NameId → List NameId → Type 0

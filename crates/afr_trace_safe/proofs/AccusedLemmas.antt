@@ -1,6 +1,5 @@
 -- Who accuses whom, by the numbers of a copy.
 use Rattle.std.proofs.Common.{◌≡◌, ◌∙◌, ℕ, ◌+◌, ◌<◌, ◌&&◌, Bool, List, refl, ap, arith, add-one, nat_lt, get_or, if◌then◌else◌}
-use Rattle.afr_base.specs.Majority.{count_below}
 use Rattle.afr_base.specs.declared.ids.Gfid.{Gfid}
 use Rattle.afr_base.specs.declared.ids.Kind.{Kind}
 use Rattle.afr_base.specs.declared.marks.Marks.{Marks}
@@ -17,12 +16,3 @@ accused_by p log g kind x c marks e low = ap (λ (m : Marks). nat_lt 0 (get_or m
 
 pub same_four : (a a' b b' c c' d d' : Bool) → a ≡ a' → b ≡ b' → c ≡ c' → d ≡ d' → (a && b && c && d) ≡ (a' && b' && c' && d')
 same_four a a' b b' c c' d d' ha hb hc hd = rw (ha, hb, hc, hd) refl
-
--- one brick more is counted
-pub one_counted : (test : ℕ → Bool) (n count more : ℕ) → count ≡ count_below n test → more ≡ (if test n then 1 else 0) → count + more ≡ count_below (n + 1) test
-one_counted test n count more e f =
-    let next : count_below (n + 1) test ≡ (if test n then 1 else 0) + count_below n test = counted_next n in
-    omega (arith, e, f, next)
-  where
-    counted_next : (n : ℕ) → count_below (n + 1) test ≡ (if test n then 1 else 0) + count_below n test
-    counted_next n = rw add-one refl

@@ -32,21 +32,3 @@ listed_on log g (suc k) j x e = by (is_on g (change_at k log)) refl j e (λ i f.
     by true h zero e more = let same : attempt_by log k ≡ x = same_Some _ x e in ap (λ (y : Attempt). is_on g (change_at y.position log)) (sym same) ∙ h
     by true h (suc j) e more = more j e
     by false h j e more = more j e
-
--- each attempt on the object is one of them
-abbrev pub IsListed : List Line → Gfid → ℕ → ℕ → Type 0
-IsListed log g n k = (j : ℕ) × (slice_get (attempts_on log g n) j ≡ Some (attempt_by log k))
-
-pub is_listed : (log : List Line) (g : Gfid) (n k : ℕ) → k < n → is_on g (change_at k log) ≡ true → IsListed log g n k
-is_listed log g zero k low on = absurd (omega (arith, low))
-is_listed log g (suc m) k low on = by (is_on g (change_at m log)) refl (here k m low) (λ l. is_listed log g m k l on)
-  where
-    here : (k m : ℕ) → k < suc m → (k < m) ⊎ (k ≡ m)
-    here k m low = grind arith
-
-    by : (o : Bool) → is_on g (change_at m log) ≡ o → (k < m) ⊎ (k ≡ m) → (k < m → IsListed log g m k)
-        → (j : ℕ) × (slice_get ((if o then attempt_by log m ∷ [] else []) ++ attempts_on log g m) j ≡ Some (attempt_by log k))
-    by true h (inl l) more = let r = more l in (suc r.0, r.1)
-    by true h (inr e) more = (0, rw e refl)
-    by false h (inl l) more = more l
-    by false h (inr e) more = let no : is_on g (change_at m log) ≡ true = rw e at on in absurd (cc)

@@ -26,7 +26,7 @@ use Rattle.afr_model.specs.Tables.{attrs_in, content_in, names_in}
 use Rattle.afr_trace_tables.specs.Plain.{plain_tables}
 use Rattle.afr_trace_safe.specs.Attempts.{attempts_on, end_of, is_on, or_older, stands, verdict}
 use Rattle.afr_trace_safe.specs.Covered.{AreBytesCurrent, AreKeysCurrent, AreNamesCurrent, AreTouchedCurrent, touched_in}
-use Rattle.afr_trace_safe.specs.Judged.{AllCurrent, IsBrickSafe, IsKindSafe, is_judged}
+use Rattle.afr_trace_safe.specs.Judged.{AllCurrent, IsBrickSafe, IsKindSafe}
 use Rattle.afr_trace_safe.specs.Same.{same_value}
 use Rattle.afr_trace_safe.specs.declared.attempts.Attempt.{Attempt}
 use Rattle.afr_trace_safe.proofs.CopyLemmas.{byte_beyond, value_plain}
@@ -126,13 +126,6 @@ attr_value g key (Some o) = refl
 name_value : (g : Gfid) (name : NameId) (o : Option Object) → value_if (Name g name) o ≡ IsEntry (lookup (is_at (name_cmp name)) (names_in o))
 name_value g name None = refl
 name_value g name (Some o) = refl
-
--- what an attempt on an object touches is of the object
-pub touched_object : (kind : Kind) (g : Gfid) (o : Option Change) (cell : Cell) → is_on g o ≡ true → touched_in kind o ≡ Some cell → object_of_cell cell ≡ g
-touched_object Attrs g (Some (SetAttr f k value)) cell on e = ap object_of_cell (sym (same_Some (Attr f k) cell e)) ∙ ap (λ (n : ℕ). object_by n) (eqb-true f.0 g.0 on)
-touched_object Names g (Some (Make dir n f what)) cell on e = ap object_of_cell (sym (same_Some (Name dir n) cell e)) ∙ ap (λ (m : ℕ). object_by m) (eqb-true dir.0 g.0 on)
-touched_object Names g (Some (Remove dir n what)) cell on e = ap object_of_cell (sym (same_Some (Name dir n) cell e)) ∙ ap (λ (m : ℕ). object_by m) (eqb-true dir.0 g.0 on)
-touched_object kind g o cell on e = absurd (cc e)
 
 key_of_touched : (g : Gfid) (o : Option Change) (cell : Cell) → is_on g o ≡ true → touched_in Attrs o ≡ Some cell → (key : KeyId) × (Attr g key ≡ cell)
 key_of_touched g (Some (SetAttr f k value)) cell on e = (k, sym (ap (λ (n : ℕ). Attr (object_by n) k) (eqb-true f.0 g.0 on)) ∙ same_Some (Attr f k) cell e)
@@ -255,11 +248,3 @@ pub all_kinds : (p : Plan) (log : List Line) (g : Gfid) (b : ℕ) → IsKindSafe
 all_kinds p log g b one two three Bytes = one
 all_kinds p log g b one two three Attrs = two
 all_kinds p log g b one two three Names = three
-
--- a copy that isn't judged may have anything
-pub not_judged : (p : Plan) (log : List Line) (g : Gfid) (b : ℕ) (kind : Kind) (judged : Bool) → judged ≡ is_judged p log g kind b → judged ≡ false → (◌≡◌ {A = Bool} true true) ↔ IsKindSafe p log g b kind
-not_judged p log g b kind judged e h = (λ k j. let no : is_judged p log g kind b ≡ false = sym e ∙ h in absurd (cc (j, no)), λ k. refl)
-
--- one that is has to be current
-pub if_judged : (p : Plan) (log : List Line) (g : Gfid) (b : ℕ) (kind : Kind) (judged flag : Bool) → judged ≡ is_judged p log g kind b → judged ≡ true → (flag ≡ true) ↔ AllCurrent p log b g kind → (flag ≡ true) ↔ IsKindSafe p log g b kind
-if_judged p log g b kind judged flag e h told = (λ k j. told.0 k, λ k. told.1 (k (sym e ∙ h)))

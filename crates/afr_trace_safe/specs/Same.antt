@@ -1,8 +1,7 @@
 -- Whether two values are the same, as a test.
 use Rattle.std.specs.Prelude.{◌==◌, ◌&&◌, Bool, true, false, Option, Some, None}
+use Rattle.afr_base.specs.Kinds.{same_what}
 use Rattle.afr_base.specs.declared.ids.ValueId.{ValueId}
-use Rattle.afr_base.specs.declared.ids.What.{What}
-use Rattle.afr_base.specs.declared.ids.What.TheVariants.{File, Dir}
 use Rattle.afr_object.specs.declared.entry.Entry.{Entry}
 use Rattle.afr_model.specs.Cells.{Value, IsByte, IsAttr, IsEntry}
 
@@ -11,12 +10,6 @@ abbrev pub same_attr : Option ValueId → Option ValueId → Bool
 same_attr None None = true
 same_attr (Some v) (Some w) = v.0 == w.0
 same_attr v w = false
-
--- two kinds of object
-abbrev pub same_what : What → What → Bool
-same_what File File = true
-same_what Dir Dir = true
-same_what one other = false
 
 -- two entries of a name, or none
 abbrev pub same_entry : Option Entry → Option Entry → Bool

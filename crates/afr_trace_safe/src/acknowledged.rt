@@ -1,25 +1,12 @@
 //! The first reply after an attempt, and whether it acknowledges the attempt.
-ghost use Rattle.std.specs.Prelude.{◌≡◌, None, nat_lt, reverse, slice_get, if◌then◌else◌};
+ghost use Rattle.std.specs.Prelude.{◌≡◌, None, nat_lt, reverse, if◌then◌else◌};
 ghost use Rattle.std.specs.Option.{option_copied};
-ghost use Rattle.afr_lines.specs.Log.{from_oldest};
 ghost use Rattle.afr_lines.specs.Work.{reply_by};
 ghost use Rattle.afr_model.specs.Attempts.{first_reply};
 ghost use Rattle.afr_trace_safe.specs.Acknowledged.{begins_well, is_acknowledged, says_ok};
 
 use afr_base::ActorId;
-use afr_lines::{Line, Reply};
-
-fn line_at(log: &[Line], position: usize) -> Option<&Line>
-    ensures { option_copied result ≡ from_oldest position (reverse log.now) }
-{
-    item_at(log, position)
-}
-
-fn item_at(log: &[Line], position: usize) -> Option<&Line>
-    ensures { option_copied result ≡ slice_get log.now position }
-{
-    log.get(position)
-}
+use afr_lines::{Line, Reply, line_at};
 
 fn reply_by(a: ActorId, line: &Line) -> Option<&Reply>
     ensures { option_copied result ≡ reply_by a.0 line.now }

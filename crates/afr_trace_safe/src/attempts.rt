@@ -7,11 +7,10 @@ ghost use Rattle.afr_trace_safe.specs.Seen.{cell_of, value_seen};
 ghost use Rattle.afr_trace_safe.specs.declared.attempts.Attempt.{Attempt as AnAttempt};
 
 use crate::acknowledged::is_acknowledged;
-use crate::cell::{Cell, Value, leaves, object_of, same_value, touches};
+use crate::cell::{Cell, Value, leaves, same_value, touches};
 use afr_base::{Gfid, NoMemory};
-use afr_lines::Line;
-use afr_object::Change;
-use afr_trace_tally::change_at;
+use afr_lines::{Line, change_at};
+use afr_object::{Change, object_of};
 use std::alloc::Global;
 
 /// Where an attempt begins, and whether it is acknowledged.

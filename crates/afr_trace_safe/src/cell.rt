@@ -1,12 +1,11 @@
 //! Cells, what a change does to them, and what stands there.
 ghost use Rattle.std.specs.Prelude.{◌≡◌, ◌&&◌};
 ghost use Rattle.afr_object.specs.Bytes.{byte_at, is_within};
-ghost use Rattle.afr_object.specs.Tables.{object_of};
 ghost use Rattle.afr_model.specs.Cells.{IsAttr, IsByte, IsEntry, leaves, nothing_in, touches};
 ghost use Rattle.afr_trace_safe.specs.Same.{same_attr, same_entry, same_value, same_what};
 ghost use Rattle.afr_trace_safe.specs.Seen.{cell_of, value_seen};
 
-use afr_base::{Gfid, KeyId, NameId, ValueId, What};
+use afr_base::{Gfid, KeyId, NameId, ValueId, What, same_what};
 use afr_object::{Change, Chunk, Entry};
 
 /// A byte of a file, an attribute of an object, or a name of a directory.
@@ -23,19 +22,6 @@ pub(crate) enum Value {
     Byte(u8),
     Attr(Option<ValueId>),
     Entry(Option<Entry>),
-}
-
-/// The object that a change is of: for a name, its directory.
-pub(crate) fn object_of(change: &Change) -> Gfid
-    ensures { result ≡ object_of change.now }
-{
-    match change {
-        Change::Write { gfid, .. } => *gfid,
-        Change::Cut { gfid, .. } => *gfid,
-        Change::SetAttr { gfid, .. } => *gfid,
-        Change::Make { dir, .. } => *dir,
-        Change::Remove { dir, .. } => *dir,
-    }
 }
 
 // ---- what a change touches
@@ -224,14 +210,5 @@ fn same_entry(one: Option<Entry>, other: Option<Entry>) -> bool
         (None, None) => true,
         (Some(e), Some(f)) => e.gfid == f.gfid && same_what(e.what, f.what),
         _ => false,
-    }
-}
-
-fn same_what(one: What, other: What) -> bool
-    ensures { result ≡ same_what one other }
-{
-    match one {
-        What::File => matches!(other, What::File),
-        What::Dir => matches!(other, What::Dir),
     }
 }

@@ -16,10 +16,10 @@ use crate::attempts::{Attempt, stands};
 use crate::cell::{Cell, Value, byte_at, same_value};
 use crate::value::value_on;
 use afr_base::{BrickId, Gfid, KeyId, Kind, NameId, NoMemory, ValueId};
-use afr_lines::Line;
+use afr_lines::{Line, change_at};
 use afr_object::{Change, Entry};
 use afr_plan::Plan;
-use afr_trace_tally::{Tally, change_at};
+use afr_trace_tally::Tally;
 
 /// Whether what a brick has in a cell was left by the last acknowledged attempt on it, or by a later one.
 fn is_current(

@@ -5,12 +5,11 @@ ghost use Rattle.afr_object.specs.Repairs.{repaired};
 ghost use Rattle.afr_trace_safe.specs.Touched.{all_read_objects, asked_objects, begun_more, begun_object, begun_objects, changed_objects, ended_objects, made_objects, named_objects, lacked, all_lacked, read_objects, touched};
 ghost use Rattle.afr_trace_tally.specs.Tally.{AsksKnown, IsTally};
 
-use crate::cell::object_of;
 use afr_base::{ActorId, BrickId, Gfid, NameId, NoMemory};
-use afr_lines::{Line, Reply, Request};
-use afr_object::{Change, Entry, Repair};
+use afr_lines::{Line, Reply, Request, change_at, is_end, is_of};
+use afr_object::{Change, Entry, Repair, object_of};
 use afr_plan::Plan;
-use afr_trace_tally::{Tally, change_at, is_end, is_of};
+use afr_trace_tally::Tally;
 use std::alloc::Global;
 
 fn one_object(alloc: Global, g: Gfid) -> Result<Vec<Gfid>, NoMemory>

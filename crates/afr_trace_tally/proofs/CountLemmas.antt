@@ -174,15 +174,6 @@ new_count h g c Attrs Names counts = other_list (h.0 == g.0) _ (count_at g count
 new_count h g c Names Bytes counts = other_list (h.0 == g.0) _ (count_at g counts.bytes)
 new_count h g c Names Attrs counts = other_list (h.0 == g.0) _ (count_at g counts.attrs)
 
--- ---- room
-pub small_roomy : (n : ℕ) (c : Count) → n < 2147483648 → IsSmall n c → IsRoomy c
-small_roomy n c few s = record {
-  opened = omega (arith, few, s.opened);
-  closed = omega (arith, few, s.closed);
-  blamed = λ b l. omega (arith, few, s.blamed b l);
-  settled = λ b l. omega (arith, few, s.settled b l);
-}
-
 small_more : (n : ℕ) (c : Count) → IsSmall n c → IsSmall (suc n) c
 small_more n c s = record { opened = omega (arith, s.opened); closed = omega (arith, s.closed); blamed = λ b l. omega (arith, s.blamed b l); settled = λ b l. omega (arith, s.settled b l) }
 
@@ -211,13 +202,6 @@ one_post blamed h = record { opened = omega arith; closed = omega arith; blamed 
 pub one_settle : (closed : ℕ) (settled : List ℕ) → closed ≤ 4294967296 → ((b : ℕ) → b < 5 → slice_index settled b ≤ 4294967296) → IsOne (record no_count { closed = closed; settled = settled })
 one_settle closed settled hc hs = record { opened = omega arith; closed = omega (arith, hc); blamed = zero_small 1; settled = λ b l. omega (arith, hs b l) }
 
--- nothing was counted at first
-pub none_counted : (p : Plan) (x : ℕ) (counts : Counts) → ((kind : Kind) → counts_for kind counts ≡ []) → AreCounted p [] x counts
-none_counted p x counts none = record { sums = λ g kind. rw (none kind) refl; small = λ g kind. rw (none kind) nothing }
-  where
-    nothing : IsSmall 0 no_count
-    nothing = record { opened = omega arith; closed = omega arith; blamed = zero_small 0; settled = zero_small (0 * 2 ^ 32) }
-
 -- a line that counts nothing here leaves what is kept
 pub counted_same : (p : Plan) (line : Line) (older : List Line) (x : ℕ) (counts : Counts) → ((g : Gfid) (kind : Kind) → count_here (counted_by x line) g kind (has_object p older g x) ≡ no_count)
     → AreCounted p older x counts → AreCounted p (line ∷ older) x counts
@@ -225,10 +209,6 @@ counted_same p line older x counts nothing was = record {
   sums = λ g kind. was.sums g kind ∙ sym (count_step p line older x g kind ∙ ap (λ (c : Count). plus c (count_of p older x g kind)) (nothing g kind) ∙ plus_none p older x g kind);
   small = λ g kind. small_more (length older) (count_at g (counts_for kind counts)) (was.small g kind);
 }
-
--- a line that asks brick x for nothing that counts
-pub counts_nothing : (p : Plan) (line : Line) (older : List Line) (x : ℕ) → counted_by x line ≡ None → (g : Gfid) (kind : Kind) → count_here (counted_by x line) g kind (has_object p older g x) ≡ no_count
-counts_nothing p line older x e g kind = rw e refl
 
 -- a line about an object that the brick lacks
 pub counts_absent : (p : Plan) (line : Line) (older : List Line) (x : ℕ) (ct : Counted) → counted_by x line ≡ Some ct → has_object p older ct.gfid x ≡ false

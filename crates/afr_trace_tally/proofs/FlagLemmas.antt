@@ -6,15 +6,6 @@ use Rattle.afr_base.specs.SetLemmas.{below_all, within_below}
 use Rattle.afr_model.specs.Report.{started_bricks}
 use Rattle.afr_trace_tally.specs.Flags.{flags}
 
--- at each of the five places
-pub flag_at : (f : ℕ → Bool) (b : ℕ) → b < 5 → get_or (flags f) b false ≡ f b
-flag_at f zero l = refl
-flag_at f (suc zero) l = refl
-flag_at f (suc (suc zero)) l = refl
-flag_at f (suc (suc (suc zero))) l = refl
-flag_at f (suc (suc (suc (suc zero)))) l = refl
-flag_at f (suc (suc (suc (suc (suc b))))) l = absurd (omega (arith, l))
-
 -- flags that are the same one by one
 pub five_flags : (a a' b b' c c' d d' e e' : Bool) → a ≡ a' → b ≡ b' → c ≡ c' → d ≡ d' → e ≡ e' → a ∷ b ∷ c ∷ d ∷ e ∷ [] ≡ a' ∷ b' ∷ c' ∷ d' ∷ e' ∷ []
 five_flags a a' b b' c c' d d' e e' ha hb hc hd he = rw (ha, hb, hc, hd, he) refl

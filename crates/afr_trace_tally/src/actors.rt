@@ -12,9 +12,9 @@ ghost use Rattle.afr_trace_tally.specs.Flags.{flags};
 ghost use Rattle.afr_trace_tally.specs.Seen.{place_seen};
 
 use crate::sessions::{Place, joined_by, linked_by, next_place, opens_with, started_by};
-use crate::works::{ends_work, is_of, kills};
+use crate::works::kills;
 use afr_base::{ActorId, BrickId};
-use afr_lines::Line;
+use afr_lines::{Line, ends_work, is_of};
 
 /// Where an actor stands in its works, how many of them have ended, whether it was killed, and at which bricks its link is up and
 /// its session is live.

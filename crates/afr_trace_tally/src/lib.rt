@@ -18,6 +18,4 @@ mod works;
 
 pub use limits::{LONGEST_CHECKED, is_past_limit};
 pub use stop::TallyStop;
-pub use tables::{change_at, change_of};
 pub use tally::{Tally, asks_known};
-pub use works::{ends_work, is_end, is_of};

@@ -8,9 +8,8 @@ ghost use Rattle.afr_model.specs.Report.{started_after, started_by};
 ghost use Rattle.afr_model.specs.Sessions.{ends_session, event_ends, linked_after, linked_by};
 ghost use Rattle.afr_trace_tally.specs.Seen.{place_seen};
 
-use crate::works::is_of;
 use afr_base::{ActorId, BrickId};
-use afr_lines::{Domain, Event, Line, Request, Told};
+use afr_lines::{Domain, Event, Line, Request, Told, is_of};
 
 /// Where an actor stands in its works.
 #[derive(Clone, Copy)]

@@ -1,7 +1,6 @@
 //! The tables of a brick, without changelog numbers, one line more at a time.
-ghost use Rattle.std.specs.Prelude.{Err, IfSome, ◌≡◌, true, false, not, ◌&&◌, ◌==◌, reverse, IfOk, OnOk, slice_get};
-ghost use Rattle.std.specs.Option.{option_copied};
-ghost use Rattle.afr_lines.specs.Log.{change_at, change_of, from_oldest};
+ghost use Rattle.std.specs.Prelude.{Err, IfSome, ◌≡◌, true, false, not, ◌&&◌, ◌==◌, reverse, IfOk, OnOk};
+ghost use Rattle.afr_lines.specs.Log.{change_at};
 ghost use Rattle.afr_model.specs.Tables.{effect, keeps_bytes};
 ghost use Rattle.afr_object.specs.State.{CanApply, IsInOrder};
 ghost use Rattle.afr_object.specs.Tables.{applied, opening};
@@ -13,44 +12,10 @@ use crate::contents::{Kept, mend};
 use crate::stop::TallyStop;
 use afr_base::{BrickId, Gfid, LONGEST_FILE, NameId, NoMemory, OPENING_GFIDS};
 use afr_brick::{Brick, Refused};
-use afr_lines::{Line, Request};
+use afr_lines::{Line, Request, change_at};
 use afr_object::Change;
 use afr_plan::Plan;
 use std::alloc::Global;
-
-// ---- attempts
-
-fn line_at(log: &[Line], position: usize) -> Option<&Line>
-    ensures { option_copied result ≡ from_oldest position (reverse log.now) }
-{
-    item_at(log, position)
-}
-
-fn item_at(log: &[Line], position: usize) -> Option<&Line>
-    ensures { option_copied result ≡ slice_get log.now position }
-{
-    log.get(position)
-}
-
-/// The change of the attempt that begins at a position.
-pub fn change_at(log: &[Line], position: usize) -> Option<&Change>
-    ensures { option_copied result ≡ change_at position (reverse log.now) }
-{
-    match line_at(log, position) {
-        Some(line) => change_of(line),
-        None => None,
-    }
-}
-
-/// The change of the attempt that a line begins.
-pub fn change_of(line: &Line) -> Option<&Change>
-    ensures { option_copied result ≡ change_of line.now }
-{
-    match line {
-        Line::Begin { change, .. } => Some(change),
-        _ => None,
-    }
-}
 
 // ---- the tables
 

@@ -207,11 +207,3 @@ none_at p log k past = sym (ap (option_and_then (λ (l : Option (List (Gfid × W
 pub shows_none : (servers : List Serving) (n : Next) → ((b : BrickId) (asked : Request) → n ≡ next.Ask b asked → ⊥) → ShowsNext servers None n
 shows_none servers (next.Ask b asked) other = absurd (other b asked refl)
 shows_none servers n other = refl
-
-pub shows_past : (servers : List Serving) (n : Next) (b : BrickId) (asked : Request) → n ≡ next.Ask b asked → slice_get servers b.0 ≡ None → ShowsNext servers None n
-shows_past servers n b asked is none = subst (λ (m : Next). ShowsNext servers None m) (sym is) (λ s there. absurd (let both : None ≡ Some s = sym none ∙ there in cc both))
-
-pub shows_asked : (servers : List Serving) (n : Next) (b : BrickId) (asked : Request) (server : Serving) (list : List (Gfid × What)) → n ≡ next.Ask b asked → slice_get servers b.0 ≡ Some server → list ≡ index_of server.copies.objects → ShowsNext servers (Some list) n
-shows_asked servers n b asked server list is there same =
-    subst (λ (m : Next). ShowsNext servers (Some list) m) (sym is)
-    (λ s here. let both : Some server ≡ Some s = sym there ∙ here in let one : server ≡ s = cc both in ap Some (same ∙ ap (λ (x : Serving). index_of x.copies.objects) one))

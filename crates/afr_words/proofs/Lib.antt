@@ -1,5 +1,4 @@
 -- Lemmas of this crate.
-pub mod CheckLemmas
 pub mod FormLemmas
 pub mod NumberLemmas
 pub mod OneWordLemmas

@@ -14,11 +14,11 @@ ghost use Rattle.afr_client_walk.specs.Choosing.{RuleAnswers, reader_of};
 use crate::removing::child::{Child, both_held, takers_of};
 use afr_base::{BrickId, BrickSet, Kind, NoMemory, Shape};
 use afr_choice::{Looked, good, holders};
-use afr_client_transaction::{area_of, object_of};
+use afr_client_transaction::area_of;
 use afr_client_walk::{pick, reader_of};
 use afr_discipline::{Move, Register, Step, asked_at, begun, may, suffices};
 use afr_lines::{Answer, Area, Domain, Good, Reply, Request, Told};
-use afr_object::{Change, View, Views};
+use afr_object::{Change, View, Views, object_of};
 use afr_rule::{Candidate, ReadRule};
 use std::alloc::Global;
 

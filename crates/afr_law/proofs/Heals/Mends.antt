@@ -20,7 +20,7 @@ use Rattle.std.proofs.lemmas.Bool.Decides.{nat_tests}
 use Rattle.std.specs.Prelude.{None, Option, Some, nat_le, nat_lt, ◌==◌, ◌^◌}
 use Rattle.afr_model_moves.specs.Past.{is_gone, last, mends}
 use Rattle.afr_model_moves.specs.Rules as weak
-use Rattle.afr_model_moves.specs.Rules.{Register, heal_area}
+use Rattle.afr_model_moves.specs.Rules.{Register}
 use Rattle.afr_model_moves.specs.Cells.{Attr, Byte, Cell, Entry, is_cell, kind_of, object_of}
 use Rattle.afr_law.proofs.Heals.Mended.{Mended, Brought, Fits, MendedIn, mends_set, unmended_yet}
 use Rattle.std.proofs.lemmas.Bool.{eq-eqb}
@@ -89,9 +89,6 @@ module _ (object : ℕ) (kind : Kind) (part : HealPart) (upto : ℕ) (views : �
 pub bool_or : (x : Bool) → (x ≡ true) ⊎ (x ≡ false)
 bool_or true = inl refl
 bool_or false = inr refl
-
-positive_le : (m k : ℕ) → m ≡ k → m ≤ k
-positive_le m k e = omega (arith, e)
 
 module _ (n : ℕ) (keeps : ℕ → Kind → Bool) (t a b : ℕ) (r : Exact) (k : Tally) (number : ℕ) (number_is : number ≡ r.law.number) (some_number : 7 ≤ rank r.step → r.law.number ≡ 0 → ⊥) (areas : AreasIn r r.law) (h : MendedIn n keeps r r.law k) where
   abbrev pub MendedAfter : Request → Told → Tally → Type 0

@@ -60,9 +60,6 @@ here_or b x = go (x == b) refl
     go true e = inl (grind (arith, nat_tests))
     go false e = inr (λ k. grind (arith, nat_tests))
 
-pub no_holder : (views : ℕ → Option View) (x : ℕ) → views x ≡ None → holder views x ≡ true → ⊥
-no_holder views x e h = true≢false (sym h ∙ rw e refl)
-
 pub none_view : (views : ℕ → Option View) (x : ℕ) → holder views x ≡ false → views x ≡ None
 none_view views x h = go (views x) refl h
   where

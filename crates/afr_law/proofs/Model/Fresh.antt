@@ -282,8 +282,3 @@ module _ (p : Plan) (a : ActorId) (b : BrickId) (r : Request) (told : Told) (too
   let_of (command.Stat path) k = let_by_some (command.Stat path) (work a.0 older) (λ x it. it) k
   let_of (command.SetAttr path key value) k = let_by_some (command.SetAttr path key value) (work a.0 older) (λ x it. it) k
   let_of (command.GetAttr path key) k = let_by_some (command.GetAttr path key) (work a.0 older) (λ x it. it) k
-
--- where the looks of their works let all reads, all reads are fresh
-pub all_fresh : (p : Plan) (log : List Line) → EachLine (IsFreshByLooks p) log → EachLine (IsLetRead p) log → AreFresh p log
-all_fresh p [] h w = tt
-all_fresh p (line ∷ older) h w = (h.0 w.0, all_fresh p older h.1 w.1)

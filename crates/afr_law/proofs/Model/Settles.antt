@@ -1,7 +1,6 @@
 -- A Settle line of an honest and lawful log takes back no more than there is; so the numbers of copies are the sums of lines.
 use Rattle.std.proofs.Common.{◌≡◌, ℕ, suc, zero, ◌<◌, ◌≤◌, Bool, true, false, ◌||◌, inl, inr, refl, sym, ◌∙◌, ap, subst, arith, List, [], ◌∷◌, length, filter, Option, None, Some, ◌==◌, if◌then◌else◌, true≢false}
 use Rattle.std.specs.Prelude.{slice_index}
-use Rattle.afr_base.specs.Bricks.{member}
 use Rattle.afr_base.specs.declared.ids.Gfid.{Gfid}
 use Rattle.afr_base.specs.declared.ids.Kind.{Kind}
 use Rattle.afr_base.specs.declared.marks.Marks.{Marks}
@@ -47,23 +46,6 @@ use Rattle.afr_law.specs.ModelLaw.{IsLawfulLine, MakesKnown}
 use Rattle.std.proofs.lemmas.Bool.{cases_lt, eqb-true}
 use Rattle.afr_model_moves.proofs.Tests.{same_kind_yes}
 use Rattle.afr_base.specs.SetLemmas.{below_all}
-
--- ---- bricks of the plan
-in_filter : (test : ℕ → Bool) (xs : List ℕ) (b : ℕ) → test b ≡ true → member xs b ≡ true → member (filter test xs) b ≡ true
-in_filter test [] b t m = absurd (true≢false (sym m))
-in_filter test (x ∷ xs) b t m = go (x == b) refl m (in_filter test xs b t)
-  where
-    keep : (hit : Bool) → member (filter test xs) b ≡ true → member (if hit then x ∷ filter test xs else filter test xs) b ≡ true
-    keep true k = or_true (x == b) k
-      where
-        or_true : (y : Bool) → member (filter test xs) b ≡ true → (y || member (filter test xs) b) ≡ true
-        or_true true k = refl
-        or_true false k = k
-    keep false k = k
-
-    go : (here : Bool) → (x == b) ≡ here → (here || member xs b) ≡ true → (member xs b ≡ true → member (filter test xs) b ≡ true) → member (if test x then x ∷ filter test xs else filter test xs) b ≡ true
-    go true e m rest = (let hit : test x ≡ true = ap test (eqb-true x b e) ∙ t in rw (hit, e) refl)
-    go false e m rest = keep (test x) (rest m)
 
 -- ---- the marks at a Settle line
 pub posts_later : (files : Beginning) (log : Log) (g : ℕ) (kind : Kind) (x c l t : ℕ) → l ≤ t → posts files log l x c g kind ≤ posts files log t x c g kind

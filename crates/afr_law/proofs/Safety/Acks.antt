@@ -194,12 +194,6 @@ begun_place Indexed a change = refl
 begun_place Between a change = refl
 begun_place Within a change = refl
 
-pieced_place : (p : Place) (a g : ℕ) (kind : Kind) → next_place p (heal_begin_by a g kind) ≡ Within
-pieced_place Fresh a g kind = refl
-pieced_place Indexed a g kind = refl
-pieced_place Between a g kind = refl
-pieced_place Within a g kind = refl
-
 outcome_end : (log : Log) (t a q : ℕ) (reply : Reply) → log t ≡ Some (end_by a reply) → q < t → outcome log (suc t) a q ≡ or_else (outcome log t a q) (Some (is_ok reply))
 unfolding outcome
 outcome_end log t a q reply is less =

@@ -26,7 +26,7 @@ use Rattle.afr_model_moves.specs.Honest.{HonestAsk, HonestLine, Honest, asked}
 use Rattle.afr_model_moves.specs.Rules.{Register, fresh, CoveredBy, SomeCell, PlaneIs, SeenFit, MayApply, MayPost, MayPre, MayBegin, begun, is_area, looked, viewed, looking, put_view, is_none, unlocked, released, locking, area_object, mend_cells, piece, note_ask, dropping, note, in_force, register, MayAsk, MayHealLock, MayHealBegin, Lawful, busy, second_of, second_freed, heal_freed}
 use Rattle.afr_law.proofs.Safety.Standing.{Noted, noted, Grants, Waits, Frees, Tries, HealGrants, HealWaits, HealFrees, HealTries, Looks, Pres, Applies, Posts, Mends, Settles, Same}
 use Rattle.afr_law.proofs.Safety.Registers.{Own, Asks, Begins, HealBegins, Ends, HealEnds, registers, MayOf}
-use Rattle.afr_model_moves.specs.Lines.{ask_by, begin_by, heal_begin_by, end_by, heal_end_by, pre_on, post_on}
+use Rattle.afr_model_moves.specs.Lines.{ask_by, begin_by, heal_begin_by, end_by, pre_on, post_on}
 use Rattle.afr_model_moves.proofs.Tests.{same_self, with_cases, no_number}
 
 pub record Attempt (log : Log) (a q : ℕ) (area : Option Area) (pre : ℕ → Bool) : Type 0 where
@@ -392,10 +392,6 @@ last_begun log t a change is = rw (is, same_self a) refl
 last_pieced : (log : Log) (t a g : ℕ) (kind : Kind) → log t ≡ Some (heal_begin_by a g kind) → last log (suc t) a ≡ suc t
 unfolding last
 last_pieced log t a g kind is = rw (is, same_self a) refl
-
-last_healed : (log : Log) (t a g : ℕ) (kind : Kind) (reply : HealReply) → log t ≡ Some (heal_end_by a g kind reply) → last log (suc t) a ≡ last log t a
-unfolding last
-last_healed log t a g kind reply is = rw is refl
 
 numbered_begin : (log : Log) (t a : ℕ) (change : Change) (r : Register) → log t ≡ Some (begin_by a change) → MayBegin r change → Numbered log t a r → Numbered log (suc t) a (record r { number = suc t })
 numbered_begin log t a change r is may s = record {

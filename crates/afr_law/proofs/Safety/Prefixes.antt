@@ -39,14 +39,6 @@ tracks files log t _ h = tt
 pub tracked : (files : Beginning) (log : Log) → DirtyShown files log → DirtyTracked files log
 tracked files log shown t = tracks files log t (log t) (shown t)
 
--- and none ever is, so looks that show them as long as none is below 0 show them
-pub shown_of_tracked : (n : ℕ) (keeps : ℕ → Kind → Bool) (files : Beginning) (faults : ℕ → ℕ → Option Fault) (log : Log) → Honest files faults log → Lawful n keeps log → DirtyTracked files log → DirtyShown files log
-shown_of_tracked n keeps files faults log honest lawful shown t = go (log t) (shown t)
-  where
-    go : (line : Option Line) → TracksDirty files log t line → ShowsDirty files log t line
-    go (Some (Ask a b (Look g) (Seen view) took)) h = λ kind. h kind (λ v low. none_below n keeps files faults log honest lawful shown b.0 g.0 kind v)
-    go _ h = tt
-
 pub alike_prefixes : (n : ℕ) (files : Beginning) (faults : ℕ → ℕ → Option Fault) (lines : List Line)
     → HonestLog files faults lines → DirtyShownLog files lines → LawfulLog n files.keeps lines → (i : ℕ) → i ≤ length lines → AlikeLog n files (take i lines)
 alike_prefixes n files faults lines honest shown lawful i low =

@@ -24,7 +24,7 @@ use Rattle.afr_model_moves.specs.Tally.{Tally, tally}
 use Rattle.afr_law.specs.Law.{opening_by, HonestNext, MayNext, HonestLog, LawfulLog, SafeLog}
 use Rattle.afr_law.specs.Safe.{Safe}
 use Rattle.afr_law.proofs.Safety.Locks.{before_is, held_past}
-use Rattle.afr_law.proofs.Safety.Agree.{tally_same, before_same, before_at, place_same, started_same, linked_same, joined_same, kind_same, holds_same, value_same, posts_same, settled_same, asked_same, register_same, held_same, safe_same}
+use Rattle.afr_law.proofs.Safety.Agree.{tally_same, before_at, place_same, started_same, linked_same, joined_same, kind_same, holds_same, value_same, posts_same, settled_same, asked_same, register_same, held_same, safe_same}
 use Rattle.afr_law.proofs.Safety.CellHistory.{safe}
 use Rattle.afr_model_moves.specs.Lines.{ask_by}
 
@@ -253,38 +253,3 @@ prefixes n files faults lines honest lawful i low =
     let same : length (take i lines) ≡ i = omega (arith, length-take i lines) in
     subst (λ k. Safe n files.keeps files (slice_get (take i lines)) k) (sym same)
     (safe_same (slice_get lines) (slice_get (take i lines)) i (front lines i) n files.keeps files (safe n files faults (slice_get lines) (honest_whole files faults lines honest) (lawful_whole n files.keeps lines lawful) i))
-
--- one line more
-push_old : (lines : List Line) (l : Line) (u : ℕ) → u < length lines → slice_get (lines ++ l ∷ []) u ≡ slice_get lines u
-push_old [] l u h = absurd (omega arith)
-push_old (x ∷ lines) l zero h = refl
-push_old (x ∷ lines) l (suc u) h = push_old lines l u (omega arith)
-
-push_cases : (lines : List Line) (l line : Line) (t : ℕ) → slice_get (lines ++ l ∷ []) t ≡ Some line → ((t < length lines) × (slice_get lines t ≡ Some line)) ⊎ ((t ≡ length lines) × (l ≡ line))
-push_cases [] l line zero e = inr (refl, cc e)
-push_cases [] l line (suc t) e = absurd (cc e)
-push_cases (x ∷ lines) l line zero e = inl (omega arith, e)
-push_cases (x ∷ lines) l line (suc t) e =
-    elim (push_cases lines l line t e) [
-      | inl w ↦ inl (omega (arith, w.0), w.1)
-      | inr w ↦ inr (ap suc w.0, w.1)
-    ]
-
-before_push : (lines : List Line) (l : Line) (t : ℕ) → t ≤ length lines → before (slice_get (lines ++ l ∷ [])) t ≡ before (slice_get lines) t
-before_push lines l t h = before_same (slice_get (lines ++ l ∷ [])) (slice_get lines) (length lines) (λ u low. push_old lines l u low) t h
-
-pub honest_push : (files : Beginning) (faults : ℕ → ℕ → Option Fault) (lines : List Line) (l : Line) → HonestLog files faults lines → HonestNext files faults (before (slice_get lines) (length lines)) (length lines) l → HonestLog files faults (lines ++ l ∷ [])
-honest_push files faults lines l honest new t line is =
-    elim (push_cases lines l line t is) [
-      | inl w ↦ subst (λ p. HonestNext files faults p t line) (sym (before_push lines l t (omega (arith, w.0)))) (honest t line w.1)
-      | inr w ↦ subst (λ k. HonestNext files faults (before (slice_get (lines ++ l ∷ [])) k) k line) (sym w.0)
-          (subst (λ p. HonestNext files faults p (length lines) line) (sym (before_push lines l (length lines) (omega arith))) (subst (HonestNext files faults (before (slice_get lines) (length lines)) (length lines)) w.1 new))
-    ]
-
-pub lawful_push : (n : ℕ) (keeps : ℕ → Kind → Bool) (lines : List Line) (l : Line) → LawfulLog n keeps lines → MayNext n keeps (before (slice_get lines) (length lines)) (length lines) l → LawfulLog n keeps (lines ++ l ∷ [])
-lawful_push n keeps lines l lawful new t line is =
-    elim (push_cases lines l line t is) [
-      | inl w ↦ subst (λ p. MayNext n keeps p t line) (sym (before_push lines l t (omega (arith, w.0)))) (lawful t line w.1)
-      | inr w ↦ subst (λ k. MayNext n keeps (before (slice_get (lines ++ l ∷ [])) k) k line) (sym w.0)
-          (subst (λ p. MayNext n keeps p (length lines) line) (sym (before_push lines l (length lines) (omega arith))) (subst (MayNext n keeps (before (slice_get lines) (length lines)) (length lines)) w.1 new))
-    ]

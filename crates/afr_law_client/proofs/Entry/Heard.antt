@@ -73,10 +73,6 @@ held_at Applying e k = absurd (cc e)
 held_at Posting e k = absurd (cc e)
 held_at Closing e k = absurd (cc e)
 
-closes : (stage : Stage) → stage ≡ Closing → is_beginning stage ≡ false
-closes Closing e = refl
-closes stage e = absurd (cc e)
-
 module _ (p : Plan) (job : EntryJob) (w : Walk) (lines : Work) (a : ActorId) (log : List Line) (t : TransactionProgress) where
   abbrev c : Command
   c = command_of job w.path

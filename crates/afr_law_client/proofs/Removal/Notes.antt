@@ -5,9 +5,8 @@ use Rattle.afr_base.specs.SetLemmas.{member_added, member_removed}
 use Rattle.afr_base.specs.declared.ids.ActorId.{ActorId}
 use Rattle.afr_base.specs.declared.ids.BrickId.{BrickId}
 use Rattle.afr_base.specs.declared.ids.Gfid.{Gfid}
-use Rattle.afr_discipline.specs.Notes.{asked_at, counts, is_first, noted_begin, shown_if, stayed}
+use Rattle.afr_discipline.specs.Notes.{counts, is_first, noted_begin, shown_if, stayed}
 use Rattle.afr_discipline.specs.declared.register.Register.{Register}
-use Rattle.afr_discipline.specs.declared.register.Step.TheVariants as step
 use Rattle.afr_lines.specs.Areas.{area_for}
 use Rattle.afr_lines.specs.Overlap.{same_area}
 use Rattle.afr_lines.specs.Work.{Work}
@@ -106,9 +105,6 @@ module _ (r : Register) (b : BrickId) where
 -- ---- the Begin line
 pub begin_leaves : (r : Register) (at : ℕ) → Leaves (noted_begin r at) r.shape r.looked (Some at) r.pre r.done r.post
 begin_leaves r at = record { shape_is = refl; looked_is = refl; begun_is = refl; pre_is = refl; done_is = refl; post_is = refl }
-
-pub begin_asks : (r : Register) (at : ℕ) → asked_at (noted_begin r at) step.Pres ≡ []
-begin_asks r at = refl
 
 -- ---- who loses a lock
 -- a line that locks nothing of an area adds nobody

@@ -64,12 +64,6 @@ small_is (Write at bytes) path e = rw e refl
 small_is (Cut len) path e = refl
 small_is (SetAttr key value) path e = refl
 
--- a change that isn't of a directory's bytes is for what was found
-for_found : (job : WriteJob) (path : List NameId) (what : What) → (is_of_bytes job && is_dir what) ≡ false → IsFor (command_of job path) what
-for_found (Write at bytes) path what e = e
-for_found (Cut len) path what e = e
-for_found (SetAttr key value) path what e = tt
-
 not_for : (job : WriteJob) (path : List NameId) (what : What) → (is_of_bytes job && is_dir what) ≡ true → IsFor (command_of job path) what → ⊥
 not_for (Write at bytes) path what e k = cc (e, k)
 not_for (Cut len) path what e k = cc (e, k)

@@ -99,10 +99,6 @@ numbered_same (command.Cut path len) object change n k = subst (λ (x : Change).
 numbered_same (command.SetAttr path key value) object change n k = subst (λ (x : Change). numbered n x ≡ x) (just (change_of.SetAttr object.gfid key value) change k.named) refl
 numbered_same other object change n k = absurd (cc k.named)
 
--- ---- the looks
-fits_none : (c : Change) → fits_view None c ≡ true
-fits_none c = refl
-
 nothing_shown : (b : ℕ) → view_at b no_looks ≡ None
 nothing_shown zero = refl
 nothing_shown (suc zero) = refl

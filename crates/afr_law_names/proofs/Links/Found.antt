@@ -32,9 +32,6 @@ use Rattle.afr_model.specs.Parts.{names_asked, upto_names}
 use Rattle.afr_model.specs.Renamed.{HasFound}
 use Rattle.afr_law_names.specs.Links.Links.{FoundIsKnown}
 
-self : (n : ℕ) → (n == n) ≡ true
-self n = grind (arith, nat_tests)
-
 -- an answer that gave something was carried out
 took_given : (live : Bool) (f : Option Fault) (said : Told) (took : Bool) → (record { told = as_told.Given; took = took }) ≡ over_session live f said → took ≡ true
 took_given false f said took e = absurd (cc (ap (λ (o : RequestOutcome). o.told) e))

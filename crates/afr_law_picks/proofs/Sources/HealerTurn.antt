@@ -7,11 +7,9 @@ use Rattle.afr_base.specs.declared.ids.Kind.{Kind}
 use Rattle.afr_base.specs.declared.ids.Kind.TheVariants.{Attrs, Bytes, Names}
 use Rattle.afr_base.specs.declared.ids.Shape.{Shape}
 use Rattle.afr_heal_round.specs.Rounding.{IsFed}
-use Rattle.afr_lines.specs.Work.{Work, is_of, work}
+use Rattle.afr_lines.specs.Work.{Work, is_of}
 use Rattle.afr_lines.specs.declared.line.Line.{Line}
 use Rattle.afr_model.specs.Chosen.{HasSource, Picks}
-use Rattle.afr_model.specs.Healing.{heal_by}
-use Rattle.afr_model.specs.Rounds.{heal_due}
 use Rattle.afr_plan.specs.declared.plan.Plan.{Plan}
 use Rattle.afr_healer.specs.Acting.{Stepped}
 use Rattle.afr_healer.specs.Keeping.{IsHealer}
@@ -20,7 +18,7 @@ use Rattle.afr_healer.specs.declared.healer.Healer.{Healer}
 use Rattle.afr_rule.specs.Choosing.{Calls}
 use Rattle.afr_server.specs.Serving.{Serving}
 use Rattle.afr_law_picks.proofs.Sources.Turns.{healer_keeps, set_source}
-use Rattle.afr_law_picks.specs.Sources.Chosen.{AreChosen, HealsFrom, RunsFrom, went_on}
+use Rattle.afr_law_picks.specs.Sources.Chosen.{AreChosen, HealsFrom, RunsFrom}
 use Rattle.afr_law_picks.specs.Sources.Laws.{LineKeepsSource, SourceKept}
 use Rattle.afr_law_picks.specs.Sources.Sources.{picked_source, picks_of, sources_of}
 
@@ -45,16 +43,3 @@ healer_turn calls choose law p a log servers after old new x y line before is ac
     let kept : SourceKept calls choose p a log line y = law p a log servers after x y line before acting ready steps (own_source (picks_of calls choose) p a log old x before.healer is k) in
     subst (AreChosen (picks_of calls choose) p (line ∷ log)) (sym (set_source old (a.0 - 17) y) ∙ ap sources_of (sym set_is))
     (healer_keeps (picks_of calls choose) p log (sources_of old) a (picked_source y) line before.healer (written_of a line written) kept.picked kept.runs k)
-
--- ---- what follows of a heal that still runs
-heals_source : (picks : Picks) (shape : Shape) (kind : Kind) (source : Option ℕ) (w : Work) → (kind ≡ Names → ⊥) → went_on w ≡ true → HealsFrom picks shape kind source w → HasSource picks shape kind w
-heals_source picks shape Names source w never on k = absurd (never refl)
-heals_source picks shape Bytes None w never on k = absurd (cc (sym k ∙ on))
-heals_source picks shape Attrs None w never on k = absurd (cc (sym k ∙ on))
-heals_source picks shape Bytes (Some s) w never on k = record { source = s; picked = k.0; kept = k.1 }
-heals_source picks shape Attrs (Some s) w never on k = record { source = s; picked = k.0; kept = k.1 }
-
--- where it has gone on it has a source that the rule picked, and keeps to it
-pub running_source : (picks : Picks) (p : Plan) (log : List Line) (sources : List (Option ℕ)) (i : ℕ) (source : Option ℕ) (g : Gfid) (kind : Kind) → AreChosen picks p log sources → slice_get sources i ≡ Some source → heal_due p (work (17 + i) log) ≡ Some (g, kind)
-    → (kind ≡ Names → ⊥) → went_on (heal_by (work (17 + i) log)) ≡ true → HasSource picks p.shape kind (heal_by (work (17 + i) log))
-running_source picks p log sources i source g kind k is due never on = heals_source picks p.shape kind source (heal_by (work (17 + i) log)) never on (k.present i source is g kind due)

@@ -93,11 +93,6 @@ first_unbegun f a b (request.Lock of area) told took none =
     by_test (λ (z : First). z.begun ≡ false) f.begun (record f { still = false }) (record f { missing = added_if (is_fault told) b.0 f.missing }) none none
 first_unbegun f a b asked told took none = none
 
--- a look of the first ones leaves it looking
-pub first_still : (f : First) (a : ActorId) (b : BrickId) (g : Gfid) (told : Told) (took : Bool) → f.still ≡ true → (first_after (Ask a b (request.Look g) told took) f).still ≡ true
-first_still f a b g told took e =
-    by_test (λ (z : First). z.still ≡ true) f.still (record f { missing = added_if (is_fault told) b.0 f.missing; looked = look_shows b.0 told f.looked }) f e e
-
 -- ---- who held the Heal lock
 pub still_free : (a : ActorId) (b : BrickId) (asked : Request) (told : Told) (took : Bool) → is_heal_lock asked ≡ false → busy_after (Ask a b asked told took) None ≡ None
 still_free a b (request.Lock domain.Heal area) told took e = absurd (cc e)

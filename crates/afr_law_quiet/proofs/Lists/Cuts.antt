@@ -1,12 +1,11 @@
 -- The line at a position of a log, with the lines before it.
 use Rattle.std.proofs.Common.{◌≡◌, ℕ, suc, ◌<◌, ◌==◌, Bool, true, false, inl, inr, refl, sym, ◌∙◌, subst, ap, arith, List, [], ◌∷◌, length, Some, true≢false}
-use Rattle.std.proofs.lemmas.Bool.{cases_lt, eqb-true}
+use Rattle.std.proofs.lemmas.Bool.{eqb-true}
 use Rattle.std.proofs.lemmas.Bool.Decides.{nat_tests}
 use Rattle.afr_lines.specs.declared.line.Line.{Line}
 use Rattle.afr_plan.specs.declared.plan.Plan.{Plan}
-use Rattle.afr_model_moves.proofs.ByPosition.{IsPast, none_at}
+use Rattle.afr_model_moves.proofs.ByPosition.{IsPast}
 use Rattle.afr_model_moves.specs.Past.{Log}
-use Rattle.afr_model_moves.specs.Positions.{by_position}
 use Rattle.afr_law_quiet.proofs.Lists.Premises.{Sound, sound_before}
 
 -- the lines before a position, and that they and its line are such as the law presumes
@@ -33,10 +32,3 @@ cut_of p L (first ∷ older) past s q line low is = go (q == length older) refl 
         record { older = older; at = sym at; sound = subst (λ (l : Line). Sound p (l ∷ older)) line_is s; past = subst (λ (l : Line). IsPast L (l ∷ older)) line_is past }
         )
     go false e rest = rest (less q (length older) e low)
-
--- a line stands only below the length of the log
-pub stands_below : (log : List Line) (q : ℕ) (line : Line) → by_position log q ≡ Some line → q < length log
-stands_below log q line is = elim (cases_lt q (length log)) [
-  | inl low ↦ low
-  | inr high ↦ absurd (let none = none_at log q high in cc (is, none))
-]

@@ -49,9 +49,6 @@ asked_before k w e = grind (arith, nat_tests, e)
 pub upto_more : (k : ℕ) (x : Line × List Line) (w : Work) → nat_le k (names_asked w) ≡ true → upto_names k (x ∷ w) ≡ upto_names k w
 upto_more k x w e = rw e refl
 
-pub after_more : (k : ℕ) (x : Line × List Line) (w : Work) → nat_le k (names_asked w) ≡ true → after_names k (x ∷ w) ≡ x ∷ after_names k w
-after_more k x w e = rw e refl
-
 -- the lines after a name and those up to it are all
 pub names_whole : (k : ℕ) (w : Work) → after_names k w ++ upto_names k w ≡ w
 names_whole k [] = refl

@@ -6,4 +6,4 @@ pub returns-in-Some : goal.returns-in-Some
 returns-in-Some c =
     rw c.in-Some.is
     (as_well c.both.result _ _ (pair_due c.in-Some.object c.args.g c.in-Some.within c.args.kind)
-    (both c.both.result c.same_gfid.result c.same_kind.result _ _ c.both.ensures c.same_gfid.ensures c.same_kind.ensures))
+    (both c.both.result c.same_gfid.result c.same_kind.result _ _ c.both.ensures c.same_gfid.ensures c.same_kind.ensures.same))

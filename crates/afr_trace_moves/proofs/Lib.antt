@@ -1,6 +1,0 @@
-pub mod RegisterLemmas
-pub mod JudgedLemmas
-pub mod LimitLemmas
-pub mod ReadLemmas
-pub mod ShowedLemmas
-pub mod UnlawfulLemmas
