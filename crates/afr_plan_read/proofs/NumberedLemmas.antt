@@ -4,13 +4,13 @@ use Rattle.std.specs.List.{list_any, position_or_len}
 use Rattle.std.specs.Str.{bytes_eq}
 use Rattle.std.proofs.lemmas.Cmp.{nat_list_eq_equiv}
 use Rattle.std.proofs.lemmas.List.Folds.{list_any-append}
-use Rattle.std.proofs.lemmas.Slice.Eq.{bytes_eq-Decides}
 use Rattle.afr_base.specs.declared.ids.NameId.{NameId}
 use Rattle.afr_plan.specs.Names.{with_name, with_names, number_of}
-use Rattle.afr_plan.specs.Paths.{names_in}
 use Rattle.afr_plan.specs.PlanOf.{path_of}
 use Rattle.afr_plan_read.specs.Numbered.{IsNumbered}
-use Rattle.afr_plan_read.proofs.NamesLemmas.{id_of}
+
+abbrev id_of : ℕ → NameId
+id_of n = record { 0 = n }
 
 same : (w : List ℕ) → bytes_eq w w ≡ true
 same w = nat_list_eq_equiv.refl w
@@ -83,7 +83,3 @@ numbered (n ∷ path) ws =
           ∙ ap (λ (t : List (List ℕ)). id_of (number_of ws n) ∷ path_of t path) kept
           ∙ ap (λ (t : List NameId). id_of (number_of ws n) ∷ t) rest.numbers;
     }
-
--- a path that is spelled as one that was numbered
-pub numbered_again : (names : List (List ℕ)) (path last : List ℕ) (ids : List NameId) → bytes_eq path last ≡ true → IsNumbered names (names_in last) ids → IsNumbered names (names_in path) ids
-numbered_again names path last ids e h = rw ((bytes_eq-Decides path last).0 e) h

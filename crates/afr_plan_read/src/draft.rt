@@ -109,11 +109,7 @@ impl<'t> Draft<'t> {
         Ok(())
     }
 
-    fn add_command(
-        &mut self,
-        path: &'t [u8],
-        action: &SpokenAction<'t>,
-    ) -> Result<(), NoMemory>
+    fn add_command(&mut self, path: &'t [u8], action: &SpokenAction<'t>) -> Result<(), NoMemory>
         ensures ok { OnOk result (self.new ≡ with_line (said.Command (names_in path.now) (seen_action action.now)) self.old) }
     {
         let command = self.words.command(self.alloc, path, action)?;
