@@ -9,6 +9,9 @@ ghost use Rattle.afr_plan.specs.Bytes as spec;
 ghost use Rattle.afr_plan.specs.Data as datum;
 ghost use Rattle.afr_plan.specs.Reading.{after, front, run_of, number_at, small_at, key_at};
 
+/// So many bytes of a path are looked at in one step.
+const STEP: usize = 16;
+
 fn is_digit(byte: u8) -> bool
     ensures { result ≡ digit byte }
 {
@@ -58,7 +61,7 @@ fn is_plain_byte(byte: u8) -> bool
     b' ' <= byte && byte <= b'~'
 }
 
-/// Whether no byte is other than from a space to a tilde. Here and in the next two each byte is looked at, whatever those
+/// Whether no byte is other than from a space to a tilde. Here and in the next three each byte is looked at, whatever those
 /// before it are, so that many are looked at in one step.
 pub fn is_plain(bytes: &[u8]) -> bool
     ensures { result ≡ list_all plain bytes.now }
@@ -78,6 +81,16 @@ fn are_hex_digits(bytes: &[u8]) -> bool
     let mut odd: u8 = 0;
     for b in bytes {
         odd = odd.max(u8::from(!is_hex_digit(*b)));
+    }
+    odd == 0
+}
+
+fn are_path_bytes(bytes: &[u8]) -> bool
+    ensures { result ≡ list_all path_byte bytes.now }
+{
+    let mut odd: u8 = 0;
+    for b in bytes {
+        odd = odd.max(u8::from(!is_path_byte(*b)));
     }
     odd == 0
 }
@@ -122,10 +135,20 @@ fn digits(bytes: &[u8]) -> usize
     bytes.iter().take_while(|b| is_digit(**b)).count()
 }
 
-pub(crate) fn path_len(bytes: &[u8]) -> usize
+fn path_run(bytes: &[u8]) -> usize
     ensures { result ≡ length (take_while path_byte bytes.now) }
 {
     bytes.iter().take_while(|b| is_path_byte(**b)).count()
+}
+
+pub(crate) fn path_len(bytes: &[u8]) -> usize
+    ensures { result ≡ length (take_while path_byte bytes.now) }
+{
+    let mut count = 0;
+    while bytes.len() - count >= STEP && are_path_bytes(&bytes[count..count + STEP]) {
+        count += STEP;
+    }
+    count + path_run(&bytes[count..])
 }
 
 fn key_len(bytes: &[u8]) -> usize

@@ -6,5 +6,6 @@ pub mod RulesLemmas
 pub mod SaysLemmas
 pub mod LoopLemmas
 pub mod NamesLemmas
+pub mod NumberedLemmas
 pub mod CountsLemmas
 pub mod PlanLemmas

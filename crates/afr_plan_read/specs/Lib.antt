@@ -1,3 +1,4 @@
 pub mod Counts
 pub mod FaultPlaces
 pub mod Broken
+pub mod Numbered

@@ -4,6 +4,7 @@ ghost use Rattle.afr_plan.specs.Data.{hex_bytes};
 ghost use Rattle.afr_plan_line.specs.Seen.{seen_data};
 
 use crate::runs::Runs;
+use crate::texts::LastText;
 use afr_base::NoMemory;
 use afr_object::Chunk;
 use afr_plan_line::{SpokenData, hex_byte};
@@ -29,17 +30,33 @@ fn decode(bytes: &mut [u8], digits: &[u8])
     }
 }
 
-/// The bytes that data stands for; fills share theirs.
-pub(crate) fn data_chunk(
-    alloc: Global,
-    runs: &mut Runs,
-    spoken: &SpokenData,
-) -> Result<Chunk, NoMemory>
-    ensures ok { IfOk result (λ chunk. chunk ≡ seen_data spoken.now) }
-{
-    match spoken {
-        SpokenData::Text(text) => Chunk::from_vec(text.to_vec(alloc)?),
-        SpokenData::Hex(digits) => Chunk::from_vec(decoded(alloc, digits)?),
-        SpokenData::Fill(count, byte) => runs.fill(alloc, *count, *byte),
+/// What the data of a plan shares: runs of one byte, and the last text.
+#[derive(Drop)]
+pub(crate) struct SharedData<'t> {
+    runs: Runs,
+    text: LastText<'t>,
+}
+
+impl<'t> SharedData<'t> {
+    pub(crate) fn new(alloc: Global) -> SharedData<'t> {
+        SharedData {
+            runs: Runs::new(alloc),
+            text: LastText::new(alloc),
+        }
+    }
+
+    /// The bytes that data stands for.
+    pub(crate) fn chunk(
+        &mut self,
+        alloc: Global,
+        spoken: &SpokenData<'t>,
+    ) -> Result<Chunk, NoMemory>
+        ensures ok { IfOk result (λ chunk. chunk ≡ seen_data spoken.now) }
+    {
+        match spoken {
+            SpokenData::Text(text) => self.text.chunk(alloc, *text),
+            SpokenData::Hex(digits) => Chunk::from_vec(decoded(alloc, digits)?),
+            SpokenData::Fill(count, byte) => self.runs.fill(alloc, *count, *byte),
+        }
     }
 }

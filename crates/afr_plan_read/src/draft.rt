@@ -109,7 +109,7 @@ impl<'t> Draft<'t> {
         Ok(())
     }
 
-    fn add_command(&mut self, path: &[u8], action: &SpokenAction) -> Result<(), NoMemory>
+    fn add_command(&mut self, path: &'t [u8], action: &SpokenAction<'t>) -> Result<(), NoMemory>
         ensures ok { OnOk result (self.new ≡ with_line (said.Command (names_in path.now) (seen_action action.now)) self.old) }
     {
         let command = self.words.command(self.alloc, path, action)?;
@@ -148,7 +148,7 @@ impl<'t> Draft<'t> {
     }
 
     /// What one line adds.
-    fn add(&mut self, spoken: Spoken) -> Result<(), NoMemory>
+    fn add(&mut self, spoken: Spoken<'t>) -> Result<(), NoMemory>
         ensures ok { OnOk result (self.new ≡ with_line (seen spoken.entry) self.old) }
     {
         match spoken {
@@ -208,8 +208,12 @@ fn push_last<T: Drop>(lists: &mut List<List<T>>, item: T) -> Result<(), NoMemory
     Ok(())
 }
 
-/// The plan that lines give, in one pass with one look-up a word.
-pub(crate) fn make_plan(alloc: Global, text: &[u8], lines: &[Spoken]) -> Result<Plan, NoMemory>
+/// The plan that lines give, in one pass with at most one look-up a word.
+pub(crate) fn make_plan<'t>(
+    alloc: Global,
+    text: &'t [u8],
+    lines: &[Spoken<'t>],
+) -> Result<Plan, NoMemory>
     ensures ok { IfOk result (λ plan. plan ≡ plan_of (reverse (map seen lines.now))) }
 {
     let mut draft = Draft::new(alloc, text);

@@ -11,11 +11,12 @@ use sha2::{Digest, Sha256};
 use std::hash::{BuildHasher, DefaultHasher, Hash, Hasher};
 use std::marker::Model;
 
-/// How many words a table hashes without a key. Where a new one comes to so many, all are hashed anew
-/// under the key of the text. However the words are chosen, a look-up compares a word with at most 32
-/// others, and a word is looked up at each of its sights: where all collide, a plan takes some two and
-/// a half times as long to read as another of its length. With 256 words it would take ten times as
-/// long. Most plans have fewer than 32, and no digest is taken of their text.
+/// How many words a table hashes without a key, beside the names of the opening files, which nobody
+/// picks. Where a new one comes to so many, all are hashed anew under the key of the text. However the
+/// words are chosen, a look-up compares a word with at most 32 others, and a word is looked up at each
+/// of its sights: where all collide, a plan takes some two and a half times as long to read as another
+/// of its length. With 256 words it would take ten times as long. Most plans have fewer than 32, and no
+/// digest is taken of their text.
 pub(crate) const KEYED_FROM: usize = 32;
 
 /// Makes the hashers of one plan's tables.

@@ -15,6 +15,8 @@ use std::marker::Model;
 #[derive(Drop)]
 pub(crate) struct NameTable {
     set: IndexSet<Word, Keyed>,
+    /// How many names are hashed without a key.
+    keyed_from: usize,
 }
 
 impl Model for NameTable {
@@ -31,23 +33,23 @@ impl NameTable {
     {
         NameTable {
             set: IndexSet::with_hasher(alloc, Keyed::unkeyed()),
+            keyed_from: KEYED_FROM,
         }
     }
 
-    /// The names of the opening files, `f1` and so on.
-    pub(crate) fn of_files(
-        alloc: Global,
-        key: &mut TextKey<'_>,
-        files: u32,
-    ) -> Result<NameTable, NoMemory>
+    /// The names of the opening files, `f1` and so on. Nobody picks them, so that they don't make few names many.
+    pub(crate) fn of_files(alloc: Global, files: u32) -> Result<NameTable, NoMemory>
         ensures ok { IfOk result (λ names. names ≡ file_names files) }
     {
         let mut names = NameTable::new(alloc);
         for i in 0..files {
             let number = i + 1;
             let name = format!(in alloc; "f{number}")?;
-            names.number(key, name.into_bytes())?;
+            names.add(Word {
+                bytes: name.into_bytes(),
+            })?;
         }
+        names.keyed_from = files as usize + KEYED_FROM;
         Ok(names)
     }
 
@@ -59,6 +61,13 @@ impl NameTable {
     {
         let word = Word { bytes: name };
         self.make_ready(key, &word)?;
+        self.add(word)
+    }
+
+    fn add(&mut self, word: Word) -> Result<u32, NoMemory>
+        ensures ok { IfOk result (λ id. id ≡ number_of self.old word.bytes.items) }
+        ensures value { OnOk result (self.new ≡ with_name self.old word.bytes.items) }
+    {
         let (index, _) = self.set.insert_full(word)?;
         let id = narrowed(index)?;
         Ok(id)
@@ -68,7 +77,7 @@ impl NameTable {
     fn make_ready(&mut self, key: &mut TextKey<'_>, name: &Word) -> Result<(), NoMemory>
         ensures { self.new ≡ self.old }
     {
-        if self.set.len() != KEYED_FROM || self.set.contains(name) {
+        if self.set.len() != self.keyed_from || self.set.contains(name) {
             return Ok(());
         }
         self.rekey(key)
@@ -90,7 +99,7 @@ impl NameTable {
     pub(crate) fn into_list(self, alloc: Global) -> Result<WordList, NoMemory>
         ensures ok { IfOk result (λ words. words ≡ self) }
     {
-        let NameTable { set } = self;
+        let NameTable { set, keyed_from: _ } = self;
         let mut words = List::new(alloc);
         for name in set {
             let Word { bytes } = name;

@@ -10,7 +10,7 @@ use afr_plan::{Plan, PlanFault, PlanStop};
 use std::alloc::Global;
 
 /// The plan that the whole lines of a text give.
-fn plan_from(alloc: Global, text: &[u8], lines: &Lines) -> Result<Plan, PlanStop>
+fn plan_from<'t>(alloc: Global, text: &'t [u8], lines: &Lines<'t>) -> Result<Plan, PlanStop>
     ensures ok { IfOk result (λ plan. plan ≡ plan_of lines.now) }
     ensures err { OnErr result (result ≡ Err PlanStop.NoMemory) }
 {

@@ -6,14 +6,13 @@ ghost use Rattle.afr_plan.specs.PlanOf.{empty_plan, path_of, command_of, words_w
 ghost use Rattle.afr_plan.specs.declared.command.Command.TheVariants as commands;
 ghost use Rattle.afr_plan_line.specs.Seen.{seen_action, seen_data};
 
-use crate::data_bytes::data_chunk;
+use crate::data_bytes::SharedData;
 use crate::keyed::TextKey;
 use crate::names::NameTable;
-use crate::runs::Runs;
-use afr_base::{KeyId, NameId, NoMemory, ValueId};
-use afr_object::List;
+use crate::paths::PathTable;
+use afr_base::{KeyId, NoMemory, ValueId};
 use afr_plan::{Command, NamePath, WordList, Words};
-use afr_plan_line::{SpokenAction, SpokenData, names_of};
+use afr_plan_line::{SpokenAction, SpokenData};
 use std::alloc::Global;
 use std::marker::Model;
 
@@ -21,11 +20,11 @@ use std::marker::Model;
 #[derive(Drop)]
 pub(crate) struct WordTables<'t> {
     key: TextKey<'t>,
-    names: NameTable,
+    names: PathTable<'t>,
     keys: NameTable,
     values: NameTable,
-    /// What the fills of the plan share; contracts don't see it.
-    runs: Runs,
+    /// Contracts don't see it.
+    shared: SharedData<'t>,
 }
 
 impl<'t> Model for WordTables<'t> {
@@ -42,10 +41,10 @@ impl<'t> WordTables<'t> {
     {
         WordTables {
             key: TextKey::new(text),
-            names: NameTable::new(alloc),
+            names: PathTable::new(alloc),
             keys: NameTable::new(alloc),
             values: NameTable::new(alloc),
-            runs: Runs::new(alloc),
+            shared: SharedData::new(alloc),
         }
     }
 
@@ -53,16 +52,16 @@ impl<'t> WordTables<'t> {
     pub(crate) fn name_files(&mut self, alloc: Global, files: u32) -> Result<(), NoMemory>
         ensures ok { OnOk result (self.new ≡ record self.old { names = file_names files }) }
     {
-        self.names = NameTable::of_files(alloc, &mut self.key, files)?;
+        self.names = PathTable::of_files(alloc, files)?;
         Ok(())
     }
 
     /// The numbers of a path's names; new names are added.
-    fn path(&mut self, alloc: Global, path: &[u8]) -> Result<NamePath, NoMemory>
+    fn path(&mut self, alloc: Global, path: &'t [u8]) -> Result<NamePath, NoMemory>
         ensures ok { IfOk result (λ ids. ids ≡ path_of self.old.names (names_in path.now)) }
         ensures value { OnOk result (self.new ≡ record self.old { names = with_names self.old.names (names_in path.now) }) }
     {
-        number_path(&mut self.names, &mut self.key, alloc, path)
+        self.names.path(&mut self.key, alloc, path)
     }
 
     fn key(&mut self, alloc: Global, key: &[u8]) -> Result<KeyId, NoMemory>
@@ -85,15 +84,15 @@ impl<'t> WordTables<'t> {
     pub(crate) fn command(
         &mut self,
         alloc: Global,
-        path: &[u8],
-        action: &SpokenAction,
+        path: &'t [u8],
+        action: &SpokenAction<'t>,
     ) -> Result<Command, NoMemory>
         ensures ok { IfOk result (λ command. command ≡ command_of self.old (names_in path.now) (seen_action action.now)) }
         ensures value { OnOk result (self.new ≡ words_with self.old (names_in path.now) (seen_action action.now)) }
     {
         let path = self.path(alloc, path)?;
         match action {
-            SpokenAction::Write { at, data } => write_of(alloc, &mut self.runs, path, *at, data),
+            SpokenAction::Write { at, data } => write_of(alloc, &mut self.shared, path, *at, data),
             SpokenAction::Cut { len } => Ok(Command::Cut { path, len: *len }),
             SpokenAction::Read { at, len } => Ok(Command::Read {
                 path,
@@ -108,12 +107,12 @@ impl<'t> WordTables<'t> {
             SpokenAction::Stat => Ok(Command::Stat { path }),
             SpokenAction::SetAttr { key, value } => self.set_attr(alloc, path, key, value),
             SpokenAction::GetAttr { key } => self.get_attr(alloc, path, key),
-            SpokenAction::Rename { to } => self.rename(alloc, path, to),
+            SpokenAction::Rename { to } => self.rename(alloc, path, *to),
         }
     }
 
     /// The second path's names come after the first one's.
-    fn rename(&mut self, alloc: Global, from: NamePath, to: &[u8]) -> Result<Command, NoMemory>
+    fn rename(&mut self, alloc: Global, from: NamePath, to: &'t [u8]) -> Result<Command, NoMemory>
         ensures ok { IfOk result (λ command. command ≡ commands.Rename from (path_of self.old.names (names_in to.now))) }
         ensures value { OnOk result (self.new ≡ record self.old { names = with_names self.old.names (names_in to.now) }) }
     {
@@ -152,7 +151,7 @@ impl<'t> WordTables<'t> {
             names,
             keys,
             values,
-            runs: _,
+            shared: _,
         } = self;
         let names = names.into_list(alloc)?;
         let (keys, values) = lists_of(alloc, keys, values)?;
@@ -177,34 +176,15 @@ fn lists_of(
     Ok((keys, values))
 }
 
-fn write_of(
+fn write_of<'t>(
     alloc: Global,
-    runs: &mut Runs,
+    shared: &mut SharedData<'t>,
     path: NamePath,
     at: u32,
-    spoken: &SpokenData,
+    spoken: &SpokenData<'t>,
 ) -> Result<Command, NoMemory>
     ensures ok { IfOk result (λ command. command ≡ commands.Write path at (seen_data spoken.now)) }
 {
-    let bytes = data_chunk(alloc, runs, spoken)?;
+    let bytes = shared.chunk(alloc, spoken)?;
     Ok(Command::Write { path, at, bytes })
-}
-
-/// The numbers of a path's names; new names are added. One look-up a name.
-fn number_path(
-    table: &mut NameTable,
-    key: &mut TextKey<'_>,
-    alloc: Global,
-    path: &[u8],
-) -> Result<NamePath, NoMemory>
-    ensures ok { IfOk result (λ ids. ids ≡ path_of table.old (names_in path.now)) }
-    ensures value { OnOk result (table.new ≡ with_names table.old (names_in path.now)) }
-{
-    let mut ids = List::new(alloc);
-    let mut names = names_of(path);
-    while let Some(name) = names.next() {
-        let id = table.number(key, name.to_vec(alloc)?)?;
-        ids.push(NameId(id))?;
-    }
-    Ok(ids)
 }

@@ -1,10 +1,20 @@
-use Rattle.std.proofs.Common.{◌≡◌, rules}
-use Rattle.hex.specs.Hex.{encode_lower}
+use Rattle.std.proofs.Common.{◌≡◌, ◌++◌, ◌∙◌, ap, append_assoc, arith, List, ℕ, take, drop}
+use Rattle.std.specs.Prelude.{string_bytes}
+use Rattle.std.proofs.lemmas.List.{length-take, take_rest}
 use Rattle.afr_model.specs.ReportReplies.{hex_text}
-use Rattle.afr_report_words.proofs.NumberLemmas.{same_hex}
+use Rattle.afr_report_words.proofs.NumberLemmas.{hex_parts}
 use Rattle.afr_report_words.proofs.numbers.push_hex.Goals as goal
 
-pub returns : goal.returns
-returns c =
-    let digits : encode_lower c.args.bytes.now ≡ hex_text c.args.bytes.now = same_hex c.args.bytes.now (λ k. (c.type_inv.bytes k).fits) in
-    record { ok = rw (← digits) (search rules) }
+pub slice_bounds-push_few_hex-end : goal.slice_bounds-push_few_hex-end
+slice_bounds-push_few_hex-end c = omega (arith, length-take {A = ℕ})
+
+pub push_few_hex-requires : goal.push_few_hex-requires
+push_few_hex-requires c = omega (arith, length-take {A = ℕ})
+
+pub loop-rest-preserved : goal.loop-rest-preserved
+loop-rest-preserved c =
+    let rest : List ℕ = c.loop-rest.rest.now in
+    let out : List ℕ = string_bytes c.loop-rest.out in
+    let same : (out ++ hex_text (take 32 rest)) ++ hex_text (drop 32 rest) ≡ string_bytes c.args.out.now ++ hex_text c.args.bytes.now =
+        append_assoc out (hex_text (take 32 rest)) (hex_text (drop 32 rest)) ∙ ap (λ (t : List ℕ). out ++ t) (hex_parts rest 32) ∙ c.loop-rest.invariant in
+    rw (take_rest, c.in_ok-push_few_hex.ensures.ok) same

@@ -7,4 +7,4 @@ pub loop-i-preserved : goal.loop-i-preserved
 loop-i-preserved c =
     let small : c.loop-i.i + 1 < 2 ^ 64 = omega (arith, c.ranges.files.fits, c.loop-i-test.true) in
     let bytes : c.into_bytes.result.items ≡ file_name (c.loop-i.i + 1) = ap (λ v. v.items) c.into_bytes.ensures.value ∙ c.in_ok-name.ensures.ok in
-    c.in_ok-number.ensures.value ∙ ap (λ (t : List ℕ). with_name c.loop-i.names t) bytes ∙ rw c.loop-i.invariant (next_file c.loop-i.i (c.loop-i.i + 1) (omega arith) small)
+    c.in_ok-add.ensures.value ∙ ap (λ (t : List ℕ). with_name c.loop-i.names t) bytes ∙ rw c.loop-i.invariant (next_file c.loop-i.i (c.loop-i.i + 1) (omega arith) small)

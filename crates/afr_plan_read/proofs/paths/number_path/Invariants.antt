@@ -2,7 +2,7 @@ use Rattle.std.proofs.Common.{◌≡◌, ◌++◌, length}
 use Rattle.afr_plan.specs.Names.{with_names}
 use Rattle.afr_plan.specs.Paths.{names_in}
 use Rattle.afr_plan.specs.PlanOf.{path_of}
-use Rattle.afr_plan_read.proofs.words.number_path.Given as goal
+use Rattle.afr_plan_read.proofs.paths.number_path.Given as goal
 
 abbrev pub invariant-loop-name : goal.invariant-loop-name
 invariant-loop-name l = record {
