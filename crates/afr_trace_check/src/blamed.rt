@@ -2,8 +2,6 @@
 ghost use Rattle.std.specs.Prelude.{◌≡◌, ◌↔◌, ◌&&◌, ◌||◌, ◌<◌, ◌≤◌, Bool, true, false, None, List, [], ◌∷◌, length, reverse, if◌then◌else◌};
 ghost use Rattle.std.specs.Option.{option_copied};
 ghost use Rattle.afr_base.specs.Bricks.{below, is_nothing, lowest, member, minus, same};
-ghost use Rattle.afr_base.specs.Kinds.{same_kind};
-ghost use Rattle.afr_lines.specs.Areas.{kind_for};
 ghost use Rattle.afr_lines.specs.Log.{change_of};
 ghost use Rattle.afr_lines.specs.Work.{is_end, is_of, work};
 ghost use Rattle.afr_lines.specs.declared.answer.Told.{Told};

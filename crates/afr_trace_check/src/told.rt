@@ -6,7 +6,7 @@ ghost use Rattle.afr_model.specs.Honest.{copy_answer, lock_answer};
 ghost use Rattle.afr_model.specs.Tables.{holds};
 ghost use Rattle.afr_object.specs.Object.{Object};
 ghost use Rattle.afr_object.specs.Repairs.{repaired};
-ghost use Rattle.afr_object.specs.Tables.{copy_at, object_of};
+ghost use Rattle.afr_object.specs.Tables.{copy_at};
 ghost use Rattle.afr_trace_build.specs.Shown.{all_sums_of, empty_view, view_shown};
 ghost use Rattle.afr_trace_check.specs.Honest.{look_told, told_by_sums};
 ghost use Rattle.afr_trace_tally.specs.Tally.{IsTally};

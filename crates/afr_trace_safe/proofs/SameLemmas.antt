@@ -3,12 +3,13 @@ use Rattle.std.proofs.Common.{◌≡◌, ◌∙◌, ℕ, ◌==◌, ◌&&◌, Boo
 use Rattle.std.proofs.lemmas.Bool.{eqb-true}
 use Rattle.std.proofs.lemmas.Bool.Decides.{nat_tests}
 use Rattle.afr_base.specs.Bricks.{and_left, and_right}
+use Rattle.afr_base.specs.Kinds.{same_what}
 use Rattle.afr_base.specs.declared.ids.ValueId.{ValueId}
 use Rattle.afr_base.specs.declared.ids.What.{What}
 use Rattle.afr_base.specs.declared.ids.What.TheVariants.{File, Dir}
 use Rattle.afr_object.specs.declared.entry.Entry.{Entry}
 use Rattle.afr_model.specs.Cells.{Value, IsByte, IsAttr, IsEntry}
-use Rattle.afr_trace_safe.specs.Same.{same_attr, same_entry, same_value, same_what}
+use Rattle.afr_trace_safe.specs.Same.{same_attr, same_entry, same_value}
 
 eq_self : (n : ℕ) → (n == n) ≡ true
 eq_self n = grind (arith, nat_tests)

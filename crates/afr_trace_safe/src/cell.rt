@@ -2,7 +2,7 @@
 ghost use Rattle.std.specs.Prelude.{◌≡◌, ◌&&◌};
 ghost use Rattle.afr_object.specs.Bytes.{byte_at, is_within};
 ghost use Rattle.afr_model.specs.Cells.{IsAttr, IsByte, IsEntry, leaves, nothing_in, touches};
-ghost use Rattle.afr_trace_safe.specs.Same.{same_attr, same_entry, same_value, same_what};
+ghost use Rattle.afr_trace_safe.specs.Same.{same_attr, same_entry, same_value};
 ghost use Rattle.afr_trace_safe.specs.Seen.{cell_of, value_seen};
 
 use afr_base::{Gfid, KeyId, NameId, ValueId, What, same_what};
