@@ -1,10 +1,9 @@
 -- What a transaction has made of its change stays so until the bricks have been asked for the operation.
-use Rattle.std.proofs.Common.{◌≡◌, ℕ, Bool, true, false, Option, Some, None, refl, sym, ap, ◌∙◌, subst, if◌then◌else◌}
+use Rattle.std.proofs.Common.{◌≡◌, ℕ, Bool, true, false, Option, refl, sym, ap, ◌∙◌, if◌then◌else◌}
 use Rattle.afr_base.specs.declared.ids.Gfid.{Gfid}
 use Rattle.afr_base.specs.declared.ids.Kind.{Kind}
 use Rattle.afr_object.specs.Tables.{object_of}
 use Rattle.afr_object.specs.declared.change.Change.{Change}
-use Rattle.afr_object.specs.declared.change.Change.TheVariants.{Write, Cut, SetAttr, Make, Remove}
 use Rattle.afr_lines.specs.declared.answer.Told.{Told}
 use Rattle.afr_lines.specs.declared.answer.Told.TheVariants as as_told
 use Rattle.afr_lines.specs.declared.request.Request.TheVariants as request
@@ -14,7 +13,7 @@ use Rattle.afr_lines.specs.Areas.{kind_for}
 use Rattle.afr_discipline.specs.declared.register.Register.{Register}
 use Rattle.afr_client_transaction.specs.Made.{IsMade, IsTransaction, made_by}
 use Rattle.afr_client_transaction.specs.Progress.{TransactionProgress, answered, answered_by, enough, is_beginning, left, may_start, number_in, on_stage, request_at}
-use Rattle.afr_client_transaction.specs.Sound.{During, IsAsking, Sound}
+use Rattle.afr_client_transaction.specs.Sound.{IsAsking, Sound}
 use Rattle.afr_client_transaction.specs.declared.stage.Stage.{Stage}
 use Rattle.afr_client_transaction.specs.declared.stage.Stage.TheVariants.{Locking, Looking, Beginning, Preparing, Applying, Posting, Closing}
 use Rattle.afr_client_transaction.proofs.Kept.{kept}

@@ -1,7 +1,7 @@
 use Rattle.std.proofs.Common.{sym, ap, subst, ◌∙◌}
 use Rattle.afr_discipline.specs.declared.register.Register.{Register}
 use Rattle.afr_client_transaction.specs.Made.{made_by}
-use Rattle.afr_client_transaction.specs.Progress.{TransactionProgress, is_beginning}
+use Rattle.afr_client_transaction.specs.Progress.{TransactionProgress}
 use Rattle.afr_client_transaction.specs.Sound.{Sound}
 use Rattle.afr_client_transaction.specs.declared.stage.Stage.TheVariants.{Preparing}
 use Rattle.afr_client_transaction.proofs.Kept.{kept_begin}

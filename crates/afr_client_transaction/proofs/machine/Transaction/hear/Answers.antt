@@ -17,7 +17,7 @@ after-self-inside-requires-clause-outside c =
     heard_outside (record { change = c.self.inside.change; register = c.self.inside.register; stage = c.self.inside.stage; asked = c.self.inside.asked }) c.args.at c.args.brick c.args.request.now
     (subst (λ (m : TransactionProgress). next_at m.stage c.args.at m ≡ next.Ask c.args.brick c.args.request.now) (sym c.self.view_is) c.requires.asked) c.self.invariant.0.sound c.args.told.now c.note_outside.new.register c.note_outside.ensures.value
 
-is_heard : (c : goal.After-self-3-1) → (record { change = c.self.inside.change; register = c.note_outside.new.register; stage = c.after-self-inside.result; asked = c.left_after-left.new.asked }) ≡ answered c.self.inside.stage c.args.told.now c.args.at (record { change = c.self.inside.change; register = c.self.inside.register; stage = c.self.inside.stage; asked = c.self.inside.asked })
+is_heard : (c : goal.After-self-2-1) → (record { change = c.self.inside.change; register = c.note_outside.new.register; stage = c.after-self-inside.result; asked = c.left_after-left.new.asked }) ≡ answered c.self.inside.stage c.args.told.now c.args.at (record { change = c.self.inside.change; register = c.self.inside.register; stage = c.self.inside.stage; asked = c.self.inside.asked })
 is_heard c = heard_is (record { change = c.self.inside.change; register = c.self.inside.register; stage = c.self.inside.stage; asked = c.self.inside.asked }) c.args.at c.args.brick c.args.request.now
     (subst (λ (m : TransactionProgress). next_at m.stage c.args.at m ≡ next.Ask c.args.brick c.args.request.now) (sym c.self.view_is) c.requires.asked) c.self.invariant.0.sound c.args.told.now c.note_outside.new.register c.after-self-inside.result c.left_after-left.new.asked
     c.note_outside.ensures.value c.left_after-left.ensures.asked c.after-self-inside.ensures
