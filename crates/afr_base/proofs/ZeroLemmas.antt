@@ -1,8 +1,11 @@
 -- Five numbers are all zero exactly where all their bits are.
-use Rattle.std.proofs.Common.{◌≡◌, ℕ, zero, suc, ◌&&◌, ◌==◌, Bool, true, false, List, [], ◌∷◌, length, get_or, bit_or, refl, arith}
+use Rattle.std.proofs.Common.{◌≡◌, ℕ, zero, suc, ◌&&◌, ◌==◌, Bool, true, false, List, [], ◌∷◌, length, get_or, bit_or, replicate, refl, ap, ◌∙◌, arith}
 use Rattle.std.specs.List.{list_all}
+use Rattle.std.proofs.lemmas.Bool.{eqb-true}
 use Rattle.std.proofs.lemmas.Bool.Decides.{nat_tests}
 use Rattle.std.proofs.lemmas.Nat.{le_or_l}
+use Rattle.afr_base.specs.Bricks.{and_left, and_right}
+use Rattle.afr_base.specs.Marks.{zero_marks}
 
 two_zero : (a b : ℕ) → (bit_or a b == 0) ≡ ((a == 0) && (b == 0))
 two_zero zero b = refl
@@ -25,3 +28,14 @@ five_zero (a ∷ b ∷ []) h = absurd (omega arith)
 five_zero (a ∷ b ∷ c ∷ []) h = absurd (omega arith)
 five_zero (a ∷ b ∷ c ∷ d ∷ []) h = absurd (omega arith)
 five_zero (a ∷ b ∷ c ∷ d ∷ e ∷ f ∷ xs) h = absurd (omega arith)
+
+all_are : (xs : List ℕ) → list_all (λ n. n == 0) xs ≡ true → xs ≡ replicate (length xs) 0
+all_are [] h = refl
+all_are (x ∷ xs) h =
+    let first : x ≡ 0 = eqb-true x 0 (and_left (x == 0) (list_all (λ n. n == 0) xs) h) in
+    let more = all_are xs (and_right (x == 0) (list_all (λ n. n == 0) xs) h) in
+    (λ i. first i ∷ more i)
+
+-- five numbers that are all zero are no others
+pub are_zero : (xs : List ℕ) → length xs ≡ 5 → list_all (λ n. n == 0) xs ≡ true → xs ≡ zero_marks.pending
+are_zero xs five h = all_are xs h ∙ ap (λ (n : ℕ). replicate n 0) five

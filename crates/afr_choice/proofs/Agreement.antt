@@ -39,11 +39,11 @@ one_fails (suc n) p h = go (p n) refl h (one_fails n p)
 pub none_of_five : (p : ℕ → Bool) → ((x : ℕ) → x < 5 → p x ≡ false) → list_any p all_five ≡ false
 none_of_five p h = rw (h 0 (omega arith), h 1 (omega arith), h 2 (omega arith), h 3 (omega arith), h 4 (omega arith)) refl
 
-pub no_to_false : (x : Bool) → not x ≡ true → x ≡ false
+no_to_false : (x : Bool) → not x ≡ true → x ≡ false
 no_to_false true h = absurd (cc h)
 no_to_false false h = refl
 
-no_to_true : (x : Bool) → not x ≡ false → x ≡ true
+pub no_to_true : (x : Bool) → not x ≡ false → x ≡ true
 no_to_true true h = refl
 no_to_true false h = absurd (cc h)
 

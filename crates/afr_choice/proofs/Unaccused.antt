@@ -4,11 +4,8 @@ use Rattle.std.specs.List.{list_all}
 use Rattle.std.proofs.lemmas.Bool.Decides.{nat_tests}
 use Rattle.afr_base.specs.Bricks.{and_left, and_right}
 use Rattle.afr_base.specs.declared.ids.Kind.{Kind}
-use Rattle.afr_base.specs.declared.ids.Kind.TheVariants.{Attrs, Bytes, Names}
 use Rattle.afr_base.specs.declared.ids.Shape.{Shape}
 use Rattle.afr_base.proofs.OfFive.{chosen_same}
-use Rattle.afr_object.specs.declared.entry.View.{View}
-use Rattle.afr_base.specs.Marks.{marks_of}
 use Rattle.afr_choice.specs.Verdict.{copies_of, good_copies, is_accused, is_copy, is_good}
 use Rattle.afr_choice.specs.declared.looked.Looked.{Looked}
 
@@ -17,6 +14,10 @@ pub none_above : (xs : List ℕ) → list_all (λ n. n == 0) xs ≡ true → (c 
 none_above [] h c = refl
 none_above (x ∷ xs) h zero = let first = and_left (x == 0) (list_all (λ n. n == 0) xs) h in grind (arith, nat_tests, first)
 none_above (x ∷ xs) h (suc c) = none_above xs (and_right (x == 0) (list_all (λ n. n == 0) xs) h) c
+
+pub and_no : (x y : Bool) → y ≡ false → (x && y) ≡ false
+and_no true y h = h
+and_no false y h = refl
 
 and_yes : (x : Bool) → x ≡ (x && true)
 and_yes true = refl

@@ -1,5 +1,5 @@
 -- Who accuses whom, which copies are good, and what that makes of a look.
-use Rattle.std.specs.Prelude.{ℕ, Bool, true, false, List, Option, Some, None, filter, is_some, not, ◌&&◌, ◌==◌, nat_lt, slice_index, if◌then◌else◌}
+use Rattle.std.specs.Prelude.{ℕ, Bool, false, List, Option, Some, None, filter, is_some, not, ◌&&◌, nat_lt, slice_index, if◌then◌else◌}
 use Rattle.std.specs.List.{list_any}
 use Rattle.afr_base.specs.Bricks.{all_five, member, is_nothing}
 use Rattle.afr_base.specs.Majority.{is_majority}

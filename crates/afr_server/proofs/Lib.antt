@@ -9,3 +9,4 @@ pub mod EventLemmas
 pub mod FindsLemmas
 pub mod CoveredLemmas
 pub mod OpeningLemmas
+pub mod LoseLemmas

@@ -3,9 +3,11 @@ ghost use Rattle.std.specs.Prelude.{◌≡◌, ℕ, ◌<◌, ◌-◌, ◌^◌, t
 ghost use Rattle.afr_faults.specs.Planned.{next_fault};
 ghost use Rattle.afr_server.specs.Carried.{CanCarryOut, CanLock};
 ghost use Rattle.afr_server.specs.Covered.{IsUnderLocks};
-ghost use Rattle.afr_server.specs.Outcome.{Serves, counted, is_carried_out, link_served};
+ghost use Rattle.afr_lines.specs.Locks.{without_owner};
+ghost use Rattle.afr_server.specs.Outcome.{Serves, counted, fails, is_carried_out, link_served, loses, lost_if};
 ghost use Rattle.afr_server.specs.Serving.{HasEpoch, epoch_of, has_session, is_met, link_for};
-ghost use Rattle.afr_session.specs.Calls.{only};
+ghost use Rattle.afr_session.specs.Calls.{Does, only};
+ghost use Rattle.afr_session.specs.Calls.Call.{End};
 ghost use Rattle.afr_session.specs.Links.{link_of, opens};
 
 use crate::carry_out::carry_out;
@@ -90,14 +92,12 @@ impl Server {
             self.unreached(actor, first, given);
             return Ok(());
         }
-        match self.faults.peek() {
-            Some(Fault::Fail) => {
-                self.fail(actor, first, given);
-                Ok(())
-            }
-            Some(Fault::Lost) => self.lose(actor, first, request, load, given),
-            None => self.answer(actor, first, request, load, given),
+        let fault = self.faults.peek();
+        if fails(fault) {
+            self.fail(actor, first, given);
+            return Ok(());
         }
+        self.carry(loses(fault), actor, first, request, load, given)
     }
 
     /// There is no live session. It stands apart, as `fail` does, so that only such requests pay for a frame that holds an
@@ -144,6 +144,33 @@ impl Server {
         given.took = false;
     }
 
+    /// The request is carried out, and answered unless its answer is lost.
+    fn carry(
+        &mut self,
+        lost: bool,
+        actor: ActorId,
+        first: bool,
+        request: &Request,
+        load: Load<'_>,
+        given: &mut Served,
+    ) -> Result<(), NoMemory>
+        requires known { actor.0 < 20 }
+        requires count { self.old.faults.requests < 2 ^ 32 - 1 }
+        requires room { first ≡ true → HasEpoch actor self.old }
+        requires reach { (link_served first false self.old.links.started (link_for actor self.old)).live ≡ true }
+        requires lock { CanLock request.now }
+        requires can { CanCarryOut request.now load self.old.copies.objects }
+        ensures ok { OnOk result (Serves first true (lost_if lost) actor request.now load.entry self.old self.new given.new) }
+        ensures err { OnErr result (self.new ≡ self.old) }
+    {
+        self.answer(actor, first, request, load, given)?;
+        if !lost {
+            return Ok(());
+        }
+        self.lose(actor, given);
+        Ok(())
+    }
+
     /// The request is carried out and answered.
     fn answer(
         &mut self,
@@ -176,43 +203,39 @@ impl Server {
         Ok(())
     }
 
-    /// The request is carried out, its answer is lost, and the session ends.
+    /// The answer is lost, and the session ends.
     #[inline(never)]
-    fn lose(
-        &mut self,
-        actor: ActorId,
-        first: bool,
-        request: &Request,
-        load: Load<'_>,
-        given: &mut Served,
-    ) -> Result<(), NoMemory>
-        requires known { actor.0 < 20 }
-        requires count { self.old.faults.requests < 2 ^ 32 - 1 }
-        requires room { first ≡ true → HasEpoch actor self.old }
-        requires reach { (link_served first false self.old.links.started (link_for actor self.old)).live ≡ true }
-        requires lock { CanLock request.now }
-        requires can { CanCarryOut request.now load self.old.copies.objects }
-        ensures ok { OnOk result (Serves first true (Some Fault.Lost) actor request.now load.entry self.old self.new given.new) }
-        ensures err { OnErr result (self.new ≡ self.old) }
+    fn lose(&mut self, actor: ActorId, given: &mut Served)
+        requires { actor.0 < 20 }
+        ensures given { given.new ≡ record { answer = Answer.NotConnected; took = true } }
+        ensures same { self.new ≡ record self.old { links = self.new.links; ranges = without_owner actor self.old.ranges; names = without_owner actor self.old.names } }
+        ensures links { Does (End actor.0) self.old.links self.new.links }
     {
-        carry_out(
-            &mut self.brick,
-            &mut self.ranges,
-            &mut self.names,
-            actor,
-            request,
-            load,
-            &mut given.answer,
-        )?;
-        count(&mut self.sessions, &mut self.faults, actor, first);
-        self.sessions.end(actor);
-        self.ranges.drop_owner(actor);
-        self.names.drop_owner(actor);
+        self.end(actor);
         *given = Served {
             answer: Answer::NotConnected,
             took: true,
         };
-        Ok(())
+    }
+}
+
+/// Whether the plan lets the request fail.
+fn fails(fault: Option<Fault>) -> bool
+    ensures { result ≡ fails fault }
+{
+    match fault {
+        Some(Fault::Fail) => true,
+        Some(Fault::Lost) | None => false,
+    }
+}
+
+/// Whether its answer is lost.
+fn loses(fault: Option<Fault>) -> bool
+    ensures { result ≡ loses fault }
+{
+    match fault {
+        Some(Fault::Lost) => true,
+        Some(Fault::Fail) | None => false,
     }
 }
 

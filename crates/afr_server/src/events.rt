@@ -56,7 +56,7 @@ impl Server {
     }
 
     /// The actor's session ends, and its locks go.
-    fn end(&mut self, actor: ActorId)
+    pub(crate) fn end(&mut self, actor: ActorId)
         requires { actor.0 < 20 }
         ensures same { self.new ≡ record self.old { links = self.new.links; ranges = without_owner actor self.old.ranges; names = without_owner actor self.old.names } }
         ensures links { Does (End actor.0) self.old.links self.new.links }

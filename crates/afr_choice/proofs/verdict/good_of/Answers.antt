@@ -1,4 +1,4 @@
-use Rattle.std.proofs.Common.{sym, ◌∙◌}
+use Rattle.std.proofs.Common.{◌∙◌}
 use Rattle.afr_choice.proofs.Unaccused.{all_are_good}
 use Rattle.afr_choice.proofs.verdict.good_of.Goals as goal
 
