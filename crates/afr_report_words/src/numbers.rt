@@ -7,7 +7,7 @@ use afr_base::NoMemory;
 use itoa::Buffer;
 
 /// So many bytes become digits in one step.
-const STEP: usize = 32;
+const STEP: usize = 64;
 
 /// Adds a number in decimal digits. It is much quicker than `write!`.
 pub fn push_number(out: &mut String, number: u64) -> Result<(), NoMemory>
@@ -77,7 +77,7 @@ pub fn push_hex(out: &mut String, bytes: &[u8]) -> Result<(), NoMemory>
 
 /// Adds the digits of a few bytes.
 fn push_few_hex(out: &mut String, bytes: &[u8]) -> Result<(), NoMemory>
-    requires { length bytes.now ≤ 32 }
+    requires { length bytes.now ≤ 64 }
     ensures ok { OnOk result (string_bytes out.new ≡ string_bytes out.old ++ hex_text bytes.now) }
 {
     let mut digits = [0; 2 * STEP];

@@ -15,6 +15,6 @@ pub loop-rest-preserved : goal.loop-rest-preserved
 loop-rest-preserved c =
     let rest : List ℕ = c.loop-rest.rest.now in
     let out : List ℕ = string_bytes c.loop-rest.out in
-    let same : (out ++ hex_text (take 32 rest)) ++ hex_text (drop 32 rest) ≡ string_bytes c.args.out.now ++ hex_text c.args.bytes.now =
-        append_assoc out (hex_text (take 32 rest)) (hex_text (drop 32 rest)) ∙ ap (λ (t : List ℕ). out ++ t) (hex_parts rest 32) ∙ c.loop-rest.invariant in
+    let same : (out ++ hex_text (take 64 rest)) ++ hex_text (drop 64 rest) ≡ string_bytes c.args.out.now ++ hex_text c.args.bytes.now =
+    append_assoc out (hex_text (take 64 rest)) (hex_text (drop 64 rest)) ∙ ap (λ (t : List ℕ). out ++ t) (hex_parts rest 64) ∙ c.loop-rest.invariant in
     rw (take_rest, c.in_ok-push_few_hex.ensures.ok) same
