@@ -14,7 +14,7 @@ use Rattle.afr_model_moves.specs.Keeps.{keeps_in}
 use Rattle.afr_model_moves.specs.Register.{accuses, all, good, holder, unaccused}
 use Rattle.afr_model_moves.specs.Rules.{is_none}
 use Rattle.afr_choice.specs.Looks.{view_at, views_of}
-use Rattle.afr_choice.specs.Shown.{good_shown, shown_of}
+use Rattle.afr_choice.specs.Shown.{good_shown}
 use Rattle.afr_choice.specs.Verdict.{accuses_at, good_copies, holders_of, is_accused, is_good, is_holder, shown_missed}
 use Rattle.afr_choice.specs.VerdictLemmas.{good_are_holders, holders_are_reached, member_holders}
 use Rattle.afr_choice.specs.declared.looked.Looked.{Looked}
@@ -102,10 +102,6 @@ module _ (n : ℕ) (looked : Looked) (few : n ≤ 5) (answered : IsAnswered n lo
       go false e =
           let one = one_fails n (λ y. not (accuses kind (views_of looked y) s)) e in
           some_passes (λ x. accuses_at kind x s looked) one.0 (omega (arith, one.1, few)) (accuses_at_same kind one.0 s ∙ no_to_true (accuses kind (views_of looked one.0) s) one.2)
-
-  -- the holders are the bricks that showed a copy
-  pub holders_same : holders_of looked ≡ shown_of looked
-  holders_same = chosen_same (is_holder looked) (holder (views_of looked)) (λ b l. holder_same b)
 
   pub holders_tell : (b : ℕ) → b < 5 → member (holders_of looked) b ≡ holder (views_of looked) b
   holders_tell b l = member_holders looked b l ∙ holder_same b

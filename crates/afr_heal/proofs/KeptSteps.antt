@@ -12,7 +12,7 @@ use Rattle.afr_discipline.specs.Turns.{less_in}
 use Rattle.afr_heal.proofs.Finding.{passed_behind, turn_low, turn_set}
 use Rattle.afr_heal.proofs.KeptBroken.{dropped_base}
 use Rattle.afr_heal.proofs.Parts.{both, denied, not_both, off, or_true, pair}
-use Rattle.afr_heal.proofs.StagesAnswers.{is_read}
+use Rattle.afr_heal.proofs.ReadRequests.{is_read}
 use Rattle.afr_heal.proofs.StagesAllowed.{may_mends, may_pre, may_read, may_settles, reads_passed}
 use Rattle.afr_heal.proofs.StagesForms.{going_at}
 use Rattle.afr_heal.specs.Answers.{asked_for, fits, source_after}

@@ -18,7 +18,7 @@ pub mod Parts
 pub mod Played
 pub mod Spared
 pub mod StagesAllowed
-pub mod StagesAnswers
+pub mod ReadRequests
 pub mod StagesForms
 pub mod StagesWalk
 pub mod Verdicts

@@ -6,7 +6,6 @@ use Rattle.afr_heal.specs.Standing.{AfterLooks, AtFirst, AtHeal, AtLooks, AtPart
 use Rattle.afr_lines.specs.declared.request.Area.{Area}
 use Rattle.afr_model_moves.specs.Register.{Exact, HealLocks, HealPart, Looks, Opening, Step, Untouched, WorkLocks, is_opening, whole_area}
 use Rattle.afr_model_moves.specs.Note.{stopping}
-use Rattle.afr_model_moves.specs.Steps.{may_heal}
 use Rattle.afr_lines.specs.declared.request.Request.{Request}
 use Rattle.afr_model_moves.specs.Rules as weak
 use Rattle.afr_model_moves.specs.Rules.{Register, begun, busy, is_area}
@@ -55,14 +54,6 @@ part_at n keeps r part asked possible fail law = stopping n keeps (record r { st
 -- after a look of a later part
 abbrev pub viewed_at : (n : ℕ) → (ℕ → Kind → Bool) → Exact → (ℕ → Bool) → (ℕ → Bool) → (ℕ → Option View) → (ℕ → Bool) → Register → Exact
 viewed_at n keeps r asked reached views possible law = stopping n keeps (record r { asked = asked; reached = reached; views = views; possible = possible; law = law })
-
--- after a request of the middle steps, an unlock or a Heal unlock
-abbrev pub stepped : Exact → Step → (ℕ → Bool) → (ℕ → Bool) → Register → Exact
-stepped r step asked possible law = record r { step = step; asked = asked; possible = possible; broken = false; law = law }
-
--- the copies that may be the source after a request at brick b
-abbrev pub still : (n : ℕ) → (ℕ → Kind → Bool) → Exact → ℕ → Request → ℕ → Bool
-still n keeps r b request x = r.possible x && may_heal n keeps r x b request
 
 -- ---- a heal that stands is in the form of its stage
 module _ (n : ℕ) (keeps : ℕ → Kind → Bool) (r : Exact) (s : ℕ) (g : Gfid) (kind : Kind) where

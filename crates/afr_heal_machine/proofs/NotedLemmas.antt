@@ -67,10 +67,6 @@ module _ (p : Register) (t b : ℕ) (told : Told) (P : Looked → Type 0) where
   looked_outside (Look g) now none after = if_shown (counts p b g.0) p.looked now after
   looked_outside request now none after = now
 
-  by_inside : (inside : Bool) (a c : Looked) → P a → P c → P (if inside then a else c)
-  by_inside true a c now after = now
-  by_inside false a c now after = after
-
   pub seen_after : (request : Request) → P p.seen → P (shown p.seen b told) → P (noted_ask p t b request told).seen
   seen_after request now after = go p.inside
     where

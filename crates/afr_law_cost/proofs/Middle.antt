@@ -7,7 +7,7 @@ use Rattle.afr_base.specs.declared.ids.Kind.{Kind}
 use Rattle.afr_base.specs.declared.ids.Kind.TheVariants.{Attrs, Bytes, Names}
 use Rattle.afr_heal.proofs.Finding.{turn_low, turn_new, turn_set}
 use Rattle.afr_heal.proofs.Parts.{not_both}
-use Rattle.afr_heal.proofs.StagesAnswers.{is_read}
+use Rattle.afr_heal.proofs.ReadRequests.{is_read}
 use Rattle.afr_heal.proofs.StagesForms.{going_at}
 use Rattle.afr_heal.specs.Answers.{asked_for, fits, source_after}
 use Rattle.afr_heal.specs.Engine.{has_part}
@@ -93,10 +93,6 @@ module _ (n : ℕ) (keeps : ℕ → Kind → Bool) (q : Exact) (s : ℕ) (g : Gf
     where
       before : nat_lt (rank q.step) 12 ≡ true
       before = grind (arith, nat_tests, high, low)
-
-  -- the sum of what is left
-  sum : (a b c d p v a' b' c' d' p' v' : ℕ) → a' + b' + c' + d' + 1 ≤ a + b + c + d → p' ≡ p → v' ≤ v → a' + b' + c' + d' + p' + v' + 1 ≤ a + b + c + d + p + v
-  sum a b c d p v a' b' c' d' p' v' h e k = omega (arith, h, e, k)
 
   pub whole : lines_left n keeps r s kind ≡ sets r + parts_of n r s kind + giving n r
   whole = going_lines n keeps r s kind g k

@@ -13,7 +13,7 @@ use Rattle.afr_choice.specs.declared.looked.Looked.{Looked}
 use Rattle.afr_discipline.specs.Turns.{less_in}
 use Rattle.afr_heal.proofs.Finding.{turn_low, turn_new, turn_set}
 use Rattle.afr_heal.proofs.Parts.{both}
-use Rattle.afr_heal.proofs.StagesAnswers.{is_read}
+use Rattle.afr_heal.proofs.ReadRequests.{is_read}
 use Rattle.afr_heal.proofs.StagesForms.{going_at}
 use Rattle.afr_heal.specs.Answers.{asked_for, fits, source_after}
 use Rattle.afr_heal.specs.Engine.{Ask, has_part}

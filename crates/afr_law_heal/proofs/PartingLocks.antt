@@ -224,10 +224,6 @@ module _ (pick : (ℕ → Bool) → ℕ) (shape : Shape) (few : shape.n ≤ 5) (
     granted_area true false = refl
     granted_area false own = refl
 
-    dropped_area : (gone : Bool) (law : Register) → law.area ≡ Some area → (weak.dropping gone b law).area ≡ Some area
-    dropped_area true law e = e
-    dropped_area false law e = e
-
     source_held : holder q.first_views s ≡ true
     source_held = (both (holder q.first_views s) (keeps_in shape s kind) (both _ _ at.picked.is_good).0).0
 

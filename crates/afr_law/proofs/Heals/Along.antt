@@ -63,9 +63,6 @@ module _ (n : ℕ) (keeps : ℕ → Kind → Bool) (log : Log) (moves : MovesExa
   in_heal t a b request told took is below inside (Goes m) p on whole = ask t a b request told took is below m (or_parts _ _ (or_parts _ _ whole).0).1 (p inside m.whole)
   in_heal t a b request told took is below inside (Gives i broken k) p on whole = absurd (true≢false (sym broken ∙ (or_parts _ _ (or_parts _ _ whole).0).0))
 
-  IsHealLockAt : Request → Type 0
-  IsHealLockAt request = (area : Area) × (request ≡ Lock Heal area)
-
   lock_at : (request : Request) → IsHealLock request → (area : Area) × (request ≡ Lock Heal area)
   lock_at (Lock Heal area) h = (area, refl)
   lock_at _ h = absurd h

@@ -27,7 +27,7 @@ use Rattle.std.specs.Prelude.{nat_le, nat_lt}
 use Rattle.afr_law.proofs.Safety.Locks.{Grant}
 use Rattle.afr_law.proofs.Safety.Standing.{without_true}
 use Rattle.afr_law.proofs.Safety.Numbers.{last_asked}
-use Rattle.afr_law.proofs.Safety.Acts.{Act, act_later, acts_apart, Working, working, acting, may_ask, mend_covers, all_covers, apply_acts}
+use Rattle.afr_law.proofs.Safety.Acts.{Act, act_later, acts_apart, Working, working, acting, may_ask, mend_covers, apply_acts}
 use Rattle.afr_law.proofs.Safety.Rising.{rises_once}
 use Rattle.afr_law.proofs.Safety.Touches.{Touched, touched, Not, Made, Mended, stamp_next, stamp_start}
 use Rattle.afr_model_moves.specs.Lines.{ask_by, look_at, pre_on, settle_on}
@@ -270,14 +270,6 @@ module _ (n : ℕ) (keeps : ℕ → Kind → Bool) (files : Beginning) (faults :
       let may : MaySettle n keeps log t a (present n log t a) b g kind less = may_ask n keeps files faults log honest lawful t a b (settle_on g kind less) told true is in
       let q = positive (present n log t a).number may.begun_already in
       (q.0, q.1, working n keeps files faults log honest lawful t a b (settle_on g kind less) told q.0 is q.1)
-
-  pub settle_acts : (cell : Cell) (t a b g : ℕ) (kind : Kind) (less : Marks) (told : Told) (is : log t ≡ Some (ask_by a b (settle_on g kind less) told true)) → is_cell cell ≡ true → object_of cell ≡ g → kind_of cell ≡ kind
-      → Act log cell (settle_works t a b g kind less told is).0 b t
-  settle_acts cell t a b g kind less told is real o k =
-      let may : MaySettle n keeps log t a (present n log t a) b g kind less = may_ask n keeps files faults log honest lawful t a b (settle_on g kind less) told true is in
-      let w = settle_works t a b g kind less told is in
-      acting n keeps files faults log honest lawful cell t a b (present n log t a) (settle_on g kind less) told w.0 is w.2 w.1 may.locked may.open_still
-      (λ mine e. all_covers n keeps files faults log honest lawful cell (present n log t a).area mine g kind may.whole e real o k)
 
   -- a stamp changes by an act of the number that it becomes
   pub stamp_step : (t b : ℕ) (cell : Cell) → (stamp files log (suc t) b cell ≡ stamp files log t b cell) ⊎ ((q : ℕ) × Act log cell q b t × (stamp files log (suc t) b cell ≡ suc q))

@@ -2,8 +2,8 @@
 use Rattle.std.proofs.Common.{◌≡◌, ℕ, zero, suc, ◌+◌, ◌-◌, ◌<◌, ◌≤◌, Bool, true, false, ◌&&◌, ◌||◌, not, refl, sym, ap, ◌∙◌, subst, arith}
 use Rattle.std.specs.Prelude.{None, ◌==◌, if◌then◌else◌, nat_lt, nat_le}
 use Rattle.afr_base.specs.declared.ids.Kind.{Kind}
-use Rattle.afr_model_moves.specs.Cells.{fits, Cell, object_of, kind_of}
-use Rattle.afr_model_moves.specs.Past.{Beginning, kind_at, Log, before, is_of, ends, place, place_after, opens, started, started_after, linked, linked_after, opening, joined, grants, frees, held, last, last_after, holds, touch_of, touch, over, stamp, values, value, named, posts, taken, settled, changes, leaves_of, Tables, tables, after}
+use Rattle.afr_model_moves.specs.Cells.{Cell, object_of, kind_of}
+use Rattle.afr_model_moves.specs.Past.{Beginning, kind_at, Log, before, is_of, ends, place, place_after, opens, started, started_after, linked, linked_after, opening, joined, grants, frees, held, last, last_after, holds, values, value, named, posts, taken, settled, changes, leaves_of, Tables, tables, after}
 use Rattle.afr_model_moves.specs.Honest.{asks, asked}
 use Rattle.afr_law.specs.Safe.{end_of, or_else, outcome, Acknowledged, Current, Opening, Left, Safe}
 use Rattle.afr_model_moves.specs.Rules.{register, register_after}
@@ -64,14 +64,6 @@ module _ (log other : Log) (m : ℕ) (agree : (u : ℕ) → u < m → log u ≡ 
 
   pub holds_same : (files : Beginning) (b g t : ℕ) → t ≤ m → holds files log t b g ≡ holds files other t b g
   holds_same files b g t h = λ i. not (kind_same files b g t h i == 0)
-
-  pub touch_same : (files : Beginning) (b : ℕ) (cell : Cell) (t : ℕ) → t < m → touch files log t b cell ≡ touch files other t b cell
-  touch_same files b cell t h = λ i. if fits (kind_same files b (object_of cell) t (omega arith) i) cell then touch_of (before_same t (omega arith) i) (λ a. last_same a t (omega arith) i) b cell (agree t h i) else 0
-
-  pub stamp_same : (files : Beginning) (b : ℕ) (cell : Cell) (t : ℕ) → t ≤ m → stamp files log t b cell ≡ stamp files other t b cell
-  unfolding stamp
-  stamp_same files b cell zero h = refl
-  stamp_same files b cell (suc t) h = λ i. over (touch_same files b cell t h i) (stamp_same files b cell t (omega arith) i)
 
   values_same : (files : Beginning) (t : ℕ) → t ≤ m → (u b : ℕ) (cell : Cell) → values files log t u b cell ≡ values files other t u b cell
   values_same files t h u b cell = ap (λ (k : Tables). k.cells cell) (tables_same files t h u b)

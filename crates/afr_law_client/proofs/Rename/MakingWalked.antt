@@ -38,9 +38,6 @@ module _ (p : Plan) (x : Paths) (lines : Work) (k : HasWalked p x lines) where
   abbrev walk : Work
   walk = the_walk from lines
 
-  abbrev make : Work
-  make = the_make from lines
-
   -- ---- what the walk did
   pub walk_untouched : IsUntouched walk
   walk_untouched = touches_nothing p.shape.n walk k.goes.only

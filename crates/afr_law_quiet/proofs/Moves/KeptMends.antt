@@ -106,9 +106,6 @@ module _ (p : Plan) (a b : ℕ) (older : List Line) (r : Exact) (told : Told) (t
   module _ (repair : Repair) (f : List ℕ → List ℕ) (low : b < p.shape.n) (source : ℕ) (may : may_heal p.shape.n (kept_by p) r source b (Mend repair) ≡ true) (possible : r.possible source ≡ true) (unfinished : r.part ≡ Finish → ⊥)
       (change : (x : ℕ) → (copy_of p (ask_by a b (Mend repair) told took ∷ older) r.law.object x ≡ copy_of p older r.law.object x)
       ⊎ ((took ≡ true) × ((b == x) ≡ true) × (copy_of p (ask_by a b (Mend repair) told took ∷ older) r.law.object x ≡ option_map (with_bytes (keeps_bytes p x) f) (copy_of p older r.law.object x)))) where
-    line : Line
-    line = ask_by a b (Mend repair) told took
-
     under : rank r.step ≤ 10
     under = turn_low p.shape.n (kept_by p) r source Mends b (mend_turn p.shape.n (kept_by p) r source b repair may)
 

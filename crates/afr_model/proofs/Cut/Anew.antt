@@ -9,7 +9,7 @@ use Rattle.afr_lines.specs.declared.line.Line.{Line}
 use Rattle.afr_lines.specs.declared.line.Line.TheVariants.{Ask, Begin}
 use Rattle.afr_lines.specs.declared.request.Request.TheVariants as request
 use Rattle.afr_lines.specs.declared.lock.Domain.TheVariants.{Work as WorkDomain}
-use Rattle.afr_model.specs.Showing.{among, applied_at, applying, begins_attempt, begun_after, begun_by, has, locks, looked_after, looked_by, posted, posting, prepared, preparing}
+use Rattle.afr_model.specs.Showing.{among, applied_at, applying, begins_attempt, begun_after, begun_by, has, locks, looked_after, looked_by, posted, posting, prepared}
 use Rattle.afr_model.specs.Standing.{change_after, change_by}
 
 -- ---- tests of a whole work
@@ -47,10 +47,6 @@ change_anew : (line : Line) (older : List Line) (s t : Option Change) → begins
 change_anew (Begin a change) older s t e = refl
 change_anew line older s t e = absurd (cc e)
 
-preparing_anew : (line : Line) (older : List Line) (s t : List ℕ) → begins_attempt line ≡ true → preparing line s ≡ preparing line t
-preparing_anew (Begin a change) older s t e = refl
-preparing_anew line older s t e = absurd (cc e)
-
 prepared_anew : (line : Line) (older : List Line) (s t : List ℕ) → begins_attempt line ≡ true → prepared line s ≡ prepared line t
 prepared_anew (Begin a change) older s t e = refl
 prepared_anew line older s t e = absurd (cc e)
@@ -77,9 +73,6 @@ module _ (s u t : Work) (begins : has begins_attempt s ≡ true) where
 
   pub same_change : change_by (s ++ u) ≡ change_by (s ++ t)
   same_change = same_fold begins_attempt (λ line older was. change_after (change_of line) was) change_by (λ x w. refl) change_anew s u t begins
-
-  pub same_preparing : among preparing (s ++ u) ≡ among preparing (s ++ t)
-  same_preparing = same_fold begins_attempt (λ line older was. preparing line was) (among preparing) (λ x w. refl) preparing_anew s u t begins
 
   pub same_prepared : among prepared (s ++ u) ≡ among prepared (s ++ t)
   same_prepared = same_fold begins_attempt (λ line older was. prepared line was) (among prepared) (λ x w. refl) prepared_anew s u t begins
