@@ -1,5 +1,5 @@
 //! The log: its lines in order, and what its readers ask of one line.
-ghost use Rattle.std.specs.Prelude.{◌≡◌, ◌++◌, ◌∷◌, ◌<◌, ◌≤◌, ℕ, List, [], true, None, length, slice_get, IfOk, OnOk, Some, vec_len, vec_capacity};
+ghost use Rattle.std.specs.Prelude.{◌≡◌, ◌++◌, ◌∷◌, ◌<◌, ◌≤◌, ℕ, List, [], true, false, None, is_some, length, slice_get, IfOk, OnOk, Some, vec_len, vec_capacity};
 ghost use Rattle.std.specs.Option.{option_copied, option_map};
 ghost use Rattle.afr_lines.specs.Told.{told_by};
 ghost use Rattle.afr_lines.specs.declared.line.Line.TheVariants.{Ask};
@@ -149,7 +149,9 @@ impl Log {
                     took,
                     told,
                 };
-                self.add_short(request, by);
+                if self.add_short(request, by).is_none() {
+                    self.keep_ask(actor, brick, request, answer, took);
+                }
             }
             None => self.add_shown(actor, brick, request, answer, took),
         }
@@ -197,23 +199,13 @@ impl Log {
         });
     }
 
-    /// A request whose answer is short, where it has no entry of its own. It stands apart for the same reason.
-    #[inline(never)]
-    fn keep_short(&mut self, request: &Request, by: By)
+    /// A request whose answer is short, where it has an entry of its own.
+    fn add_short(&mut self, request: &Request, by: By) -> Option<()>
         requires { self.old.room ≡ true }
-        ensures { self.new.items ≡ self.old.items ++ ask_by by request.now ∷ [] }
+        ensures some { is_some result ≡ true → self.new.items ≡ self.old.items ++ ask_by by request.now ∷ [] }
+        ensures none { is_some result ≡ false → self.new ≡ self.old }
     {
-        self.keep(by.ask(*request));
-    }
-
-    /// A request whose answer is short.
-    fn add_short(&mut self, request: &Request, by: By)
-        requires { self.old.room ≡ true }
-        ensures { self.new.items ≡ self.old.items ++ ask_by by request.now ∷ [] }
-    {
-        if pack(&mut self.packed, request, by).is_none() {
-            self.keep_short(request, by);
-        }
+        pack(&mut self.packed, request, by)
     }
 
     /// The line at a position.

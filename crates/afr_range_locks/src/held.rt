@@ -68,14 +68,15 @@ impl<A: Lockable> HeldLocks<A> {
         if holds_none(&self.locks) {
             return None;
         }
-        self.blocked_by_some(wanted)
+        self.blocked_by_some(*wanted)
     }
 
+    /// It takes a copy, so that a lock stays in registers where no search among many is needed.
     #[inline(never)]
-    fn blocked_by_some(&self, wanted: &HeldLock<A>) -> Option<ActorId>
-        ensures { result ≡ first_conflict A.overlap wanted.now self.now }
+    fn blocked_by_some(&self, wanted: HeldLock<A>) -> Option<ActorId>
+        ensures { result ≡ first_conflict A.overlap wanted self.now }
     {
-        blocked_by(&self.locks, self.next, wanted)
+        blocked_by(&self.locks, self.next, &wanted)
     }
 
     /// Releases the lock as often as it was granted, and takes no memory. O(log n + k) steps on n
@@ -87,14 +88,14 @@ impl<A: Lockable> HeldLocks<A> {
         if holds_none(&self.locks) {
             return;
         }
-        self.unlock_some(held);
+        self.unlock_some(*held);
     }
 
     #[inline(never)]
-    fn unlock_some(&mut self, held: &HeldLock<A>)
-        ensures { self.new ≡ unlocked A.same held.now self.old }
+    fn unlock_some(&mut self, held: HeldLock<A>)
+        ensures { self.new ≡ unlocked A.same held self.old }
     {
-        release(&mut self.locks, self.next, held);
+        release(&mut self.locks, self.next, &held);
     }
 
     /// Releases all locks of an owner, and takes no memory. O(n) steps on n held locks.
