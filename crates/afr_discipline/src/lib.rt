@@ -36,6 +36,6 @@ pub use moves::may;
 pub use note_alone::note_outside;
 pub use note_steps::asked_at;
 pub use notes::{note, note_allowed, note_free};
-pub use of_heals::{begun, healed, is_heal, present_part, present_step};
+pub use of_heals::{begun, healed, present_part, present_step};
 pub use register::{HealPart, Move, Register, Step, fresh, renew};
 pub use views::suffices;

@@ -6,13 +6,6 @@ ghost use Rattle.afr_discipline.specs.Stands.{Stands};
 use crate::register::{HealPart, Register, Step};
 use afr_base::Gfid;
 
-/// Whether the lines are those of a heal.
-pub fn is_heal(register: &Register) -> bool
-    ensures { (r : Exact) → Stands register.now r → result ≡ r.law.heal }
-{
-    register.inside
-}
-
 /// The object that a heal is of.
 pub fn healed(register: &Register) -> Gfid
     ensures { (r : Exact) → Stands register.now r → result.0 ≡ r.law.object }

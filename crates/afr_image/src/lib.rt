@@ -12,5 +12,5 @@ mod steps;
 pub use image::{Image, ImageFault, ImageStop, StepList, codes};
 pub use print::{print_image, print_run};
 pub use read::{one_image_for_bytes, read_image, read_image_for};
-pub use recorded::{step_at, steps_of};
+pub use recorded::step_at;
 pub use step::{Step, step_of};

@@ -1,29 +1,15 @@
 //! The steps of a log.
-ghost use Rattle.std.specs.Prelude.{◌≡◌, ◌++◌, ◌<◌, ◌^◌, IfOk, OnOk, Some, length, map, slice_get};
+ghost use Rattle.std.specs.Prelude.{◌≡◌, ◌++◌, ◌<◌, ◌^◌, OnOk, Some, length, map, slice_get};
 ghost use Rattle.afr_image.specs.Steps.{step_of, steps_bytes};
 ghost use Rattle.afr_image.specs.Logs.{HasShortActors};
 ghost use Rattle.afr_lines.specs.declared.line.Line.{Line};
 
 use crate::frame::STEP;
-use crate::image::StepList;
 use crate::step::{Step, asked_step, step_of, told_step};
 use crate::steps::push_step;
 use afr_base::NoMemory;
 use afr_lines::{Request, Told};
 use afr_log::Log;
-use std::alloc::Global;
-
-/// The steps of all lines, the oldest first. It takes time proportional to their number.
-pub fn steps_of(alloc: Global, log: &Log) -> Result<StepList, NoMemory>
-    requires { HasShortActors log.now.items }
-    ensures { IfOk result (λ steps. steps ≡ map step_of log.now.items) }
-{
-    let mut steps = Vec::with_capacity(alloc, log.len())?;
-    for at in 0..log.len() {
-        steps.push(step_at(log, at))?;
-    }
-    Ok(StepList::from_vec(steps))
-}
 
 /// Adds the bytes of the steps of all lines, the oldest first. Room for them is made first.
 pub(crate) fn push_lines(out: &mut Vec<u8>, log: &Log) -> Result<(), NoMemory>

@@ -19,7 +19,7 @@ use afr_base::NoMemory;
 use afr_law_bound::an_ordered_run_ends;
 use afr_rule::{Candidate, Rules};
 use afr_volume::Volume;
-pub use remaking::{Replayed, image_of, replay, replay_steps, with_turns};
+pub use remaking::{Replayed, replay, replay_steps, with_turns};
 
 /// Runs the plan that the volume was set up with, until every actor is done or the log is full: first its orders, then
 /// passes over all actors. Its healers go their own rounds. Heals ask one of the rules for their sources, and clients the other for the copies that they

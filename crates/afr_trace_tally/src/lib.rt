@@ -18,4 +18,4 @@ mod works;
 
 pub use limits::{LONGEST_CHECKED, is_past_limit};
 pub use stop::TallyStop;
-pub use tally::{Tally, asks_known};
+pub use tally::Tally;

@@ -1,5 +1,5 @@
 //! All that is kept of a log, one line more at a time.
-ghost use Rattle.std.specs.Prelude.{Err, true, ◌≡◌, ◌↔◌, ◌+◌, ◌-◌, ◌<◌, ◌≤◌, ◌^◌, [], ◌∷◌, ◌++◌, length, reverse, IfOk, OnOk, if◌then◌else◌};
+ghost use Rattle.std.specs.Prelude.{Err, true, ◌≡◌, ◌+◌, ◌-◌, ◌<◌, ◌≤◌, ◌^◌, [], ◌∷◌, ◌++◌, length, reverse, IfOk, OnOk, if◌then◌else◌};
 ghost use Rattle.afr_lines.specs.Work.{is_event};
 ghost use Rattle.afr_base.specs.Bricks.{member};
 ghost use Rattle.afr_model.specs.Report.{started_bricks};
@@ -35,20 +35,6 @@ pub struct Tally {
     pub(crate) events: u32,
     pub(crate) shown: Vec<Kept>,
     pub(crate) entries: Vec<Option<Entry>>,
-}
-
-/// Whether the line, where it asks, is of one of twenty actors and asks one of five bricks.
-pub fn asks_known(line: &Line) -> bool
-    ensures { (result ≡ true) ↔ AsksKnown line.now }
-{
-    match line {
-        Line::Ask { actor, brick, .. } => actor.0 < 20 && brick.0 < 5,
-        Line::Begin { .. } => true,
-        Line::HealBegin { .. } => true,
-        Line::End { .. } => true,
-        Line::HealEnd { .. } => true,
-        Line::Event { .. } => true,
-    }
 }
 
 fn new_actors() -> [ActorTally; 20]

@@ -8,10 +8,9 @@ use Rattle.std.proofs.lemmas.List.Folds.{list_all-append}
 use Rattle.afr_base.specs.declared.ids.ActorId.{ActorId}
 use Rattle.afr_base.specs.declared.ids.BrickId.{BrickId}
 use Rattle.afr_image.specs.declared.step.Step.{Step}
-use Rattle.afr_image.specs.Images.{IsImage, is_over}
+use Rattle.afr_image.specs.Images.{IsImage}
 use Rattle.afr_image.specs.Logs.{HasShortActors, image_of}
 use Rattle.afr_image.specs.Steps.{are_steps, asked_step, heal_number, is_asked_step, is_event_step, is_own_code, is_own_step, is_step, is_within, own_step, reply_number, step_of, told_code}
-use Rattle.afr_image.proofs.ReadLemmas.{image_with}
 use Rattle.afr_law_bound.proofs.Standstill.Standing.{is_actor}
 use Rattle.afr_law.specs.Exactly.{IsLawfulExactly, name_bound}
 use Rattle.afr_law.specs.Beginning.{start_of}
@@ -189,7 +188,3 @@ other_step a b e same =
 -- ---- the actors of a plan
 pub numbered : (p : Plan) (a m n : ℕ) → m ≡ length p.clients → n ≡ length p.healers → ((nat_le 1 a && nat_le a m) || (nat_le 17 a && nat_le a (16 + n))) ≡ is_actor p a
 numbered p a m n e f = rw (e, f) refl
-
--- ---- an image
-pub image_is : (p q : Plan) (log : List Line) (steps : List Step) → p ≡ q → steps ≡ map step_of (reverse log) → image_with p steps ≡ image_of q log
-image_is p q log steps e f = ap (λ (x : Plan). image_with x steps) e ∙ ap (image_with q) f
