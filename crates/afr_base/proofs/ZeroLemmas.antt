@@ -3,13 +3,16 @@ use Rattle.std.proofs.Common.{◌≡◌, ℕ, zero, suc, ◌&&◌, ◌==◌, Boo
 use Rattle.std.specs.List.{list_all}
 use Rattle.std.proofs.lemmas.Bool.{eqb-true}
 use Rattle.std.proofs.lemmas.Bool.Decides.{nat_tests}
-use Rattle.std.proofs.lemmas.Nat.{le_or_l}
+use Rattle.std.proofs.lemmas.Nat.{le_or_l, le_or_r}
 use Rattle.afr_base.specs.Bricks.{and_left, and_right}
 use Rattle.afr_base.specs.Marks.{zero_marks}
 
-two_zero : (a b : ℕ) → (bit_or a b == 0) ≡ ((a == 0) && (b == 0))
+pub two_zero : (a b : ℕ) → (bit_or a b == 0) ≡ ((a == 0) && (b == 0))
 two_zero zero b = refl
 two_zero (suc a) b = grind (arith, nat_tests, le_or_l (suc a) b)
+
+pub both_zero : (a b : ℕ) → bit_or a b ≡ 0 → (a ≡ 0) × (b ≡ 0)
+both_zero a b h = (omega (arith, le_or_l a b, h), omega (arith, le_or_r a b, h))
 
 regrouped : (a b c d e : Bool) → ((((a && b) && c) && d) && e) ≡ (a && (b && (c && (d && (e && true)))))
 regrouped false b c d e = refl

@@ -1,9 +1,0 @@
-use Rattle.std.proofs.Common.{sym, ◌∙◌}
-use Rattle.afr_base.proofs.ZeroLemmas.{are_zero, five_zero}
-use Rattle.afr_base.proofs.marks.all_zero.Goals as goal
-
-pub returns-clause-test : goal.returns-clause-test
-returns-clause-test c = five_zero c.args.numbers.now c.told-numbers
-
-pub returns-clause-none : goal.returns-clause-none
-returns-clause-none c = λ yes. are_zero c.args.numbers.now c.told-numbers (sym (five_zero c.args.numbers.now c.told-numbers) ∙ yes)
