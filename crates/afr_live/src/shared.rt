@@ -83,7 +83,8 @@ impl<J: Run> Shared<J> {
         come
     }
 
-    /// The events that are due, and then one turn of an actor, which counts a work that it ends.
+    /// The events that are due, and then one turn of an actor, which counts a work that it ends. A thread does little else.
+    #[inline(always)]
     pub fn take_turn<F: Fn(&[Candidate]) -> usize, G: Fn(&[Candidate]) -> usize>(
         &mut self,
         a: ActorId,
