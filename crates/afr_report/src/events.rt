@@ -5,6 +5,7 @@ ghost use Rattle.afr_log.specs.Log.{told_line, unasked};
 ghost use Rattle.afr_model.specs.Report.{started_after, started_bricks, started_by};
 ghost use Rattle.afr_report.specs.BrickLines.{AreBrickLines, IsBrickEvent, IsBrickLine};
 
+use crate::own::told_line_at;
 use afr_base::BrickSet;
 use afr_lines::{Event, Line};
 use afr_log::{Log, ToldLine};
@@ -28,10 +29,7 @@ fn started_at(bricks: BrickSet, log: &Log, at: usize) -> BrickSet
     ensures asked { unasked (slice_get log.now.items at) ≡ None → result ≡ bricks }
     ensures line { (line : Line) → unasked (slice_get log.now.items at) ≡ Some line → result ≡ started_by line bricks }
 {
-    if log.is_asked(at) {
-        return bricks;
-    }
-    match log.told_at(at) {
+    match told_line_at(log, at) {
         Some(told) => started_told(bricks, told),
         None => bricks,
     }

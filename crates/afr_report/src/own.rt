@@ -38,10 +38,7 @@ fn no_places(alloc: Global) -> Result<Vec<List<u32>>, NoMemory>
 fn note_at(lists: &mut Vec<List<u32>>, log: &Log, at: usize) -> Result<(), NoMemory>
     ensures ok { OnOk result (lists.new.items ≡ placed (option_and_then subject_of (unasked (slice_get log.now.items at))) at lists.old.items) }
 {
-    if log.is_asked(at) {
-        return Ok(());
-    }
-    note(lists, log.told_at(at), at)
+    note(lists, told_line_at(log, at), at)
 }
 
 /// Notes the position of a line, if there is one and it tells of an actor.
@@ -124,6 +121,16 @@ pub fn own_places(lists: &[List<u32>], actor: ActorId) -> &[u32]
         Some(own) => own.as_slice(),
         None => &[],
     }
+}
+
+/// The line at a position of the log, where it is no request. Most are requests, which one look tells.
+pub fn told_line_at(log: &Log, at: usize) -> Option<ToldLine<'_>>
+    ensures { option_map told_line result ≡ unasked (slice_get log.now.items at) }
+{
+    if log.is_asked(at) {
+        return None;
+    }
+    log.told_at(at)
 }
 
 /// The line at a position of the log, where it is no request.

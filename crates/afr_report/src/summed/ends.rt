@@ -3,6 +3,7 @@ ghost use Rattle.std.specs.Prelude.{◌≡◌, cond, count_by};
 ghost use Rattle.afr_log.specs.Log.{told_line};
 ghost use Rattle.afr_report.specs.Summary.Summary as specs;
 
+use crate::own::told_line_at;
 use afr_base::{ActorId, MOST_CLIENTS};
 use afr_lines::{HealReply, Line, Reply};
 use afr_log::{Log, ToldLine};
@@ -28,7 +29,7 @@ pub fn count_ends(log: &Log) -> EndCounts
     let mut refused = 0;
     let mut settled = 0;
     for at in 0..log.len() {
-        if let Some(told) = log.told_at(at) {
+        if let Some(told) = told_line_at(log, at) {
             ok += one_if(told_ok(told));
             refused += one_if(told_refused(told));
             settled += one_if(told_settled(told));
