@@ -1,5 +1,5 @@
 -- Which plans can be crawled, and where a crawl that is over has nothing left to do.
-use Rattle.std.proofs.Common.{◌≡◌, ◌∙◌, ◌⊎◌, inl, inr, ℕ, suc, ◌+◌, ◌-◌, ◌<◌, ◌≤◌, ◌||◌, ◌&&◌, ◌==◌, not, Bool, true, false, List, [], ◌∷◌, Option, None, Some, if◌then◌else◌, refl, sym, ap, arith, length, map, nat_le, nat_lt, get_or, slice_get, subst}
+use Rattle.std.proofs.Common.{◌≡◌, ◌∙◌, ◌⊎◌, inl, inr, ℕ, suc, ◌+◌, ◌-◌, ◌<◌, ◌≤◌, ◌||◌, ◌&&◌, ◌==◌, not, Bool, true, false, List, [], ◌∷◌, Option, None, Some, if◌then◌else◌, refl, sym, ap, arith, length, map, nat_le, nat_lt, get_or, slice_get}
 use Rattle.std.proofs.lemmas.Bool.{cases_lt}
 use Rattle.std.proofs.lemmas.Bool.Decides.{nat_tests}
 use Rattle.std.proofs.lemmas.List.Sums.{sum_by-cons}
@@ -19,7 +19,7 @@ use Rattle.afr_report.specs.Workers.{is_untried, items_given, tasks_ended}
 use Rattle.afr_volume.specs.State.{State}
 use Rattle.afr_volume.specs.Tasks.{has_task, is_done_in, task_by}
 use Rattle.afr_workers.specs.Crew.{IsCrawled, IsTriedIn}
-use Rattle.afr_cli.specs.Crawl.{AreDoneIn, IsCrawlLeft, IsLeftIn}
+use Rattle.afr_cli.specs.Crawl.{AreDoneIn, IsCrawlLeft}
 use Rattle.afr_cli.specs.Statuses.{IsFull}
 
 -- ---- plans

@@ -11,7 +11,7 @@ use Rattle.afr_lines.specs.Areas.{kind_for}
 use Rattle.afr_client_walk.specs.declared.walk.Walk.{Walk}
 use Rattle.afr_client_transaction.specs.Between.{is_read, noted_read}
 use Rattle.afr_client_transaction.specs.Progress as progress
-use Rattle.afr_client_transaction.specs.Progress.{TransactionProgress, answered, asks, fed, is_beginning, told_to}
+use Rattle.afr_client_transaction.specs.Progress.{TransactionProgress, answered, fed, is_beginning, told_to}
 use Rattle.afr_client_transaction.specs.declared.stage.Stage.{Stage}
 use Rattle.afr_client_transaction.specs.declared.stage.Stage.TheVariants.{Locking, Looking, Beginning, Preparing, Applying, Posting, Closing}
 use Rattle.afr_client_transaction.proofs.NoteLemmas.{fed_change}

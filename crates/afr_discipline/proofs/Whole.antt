@@ -1,13 +1,11 @@
 -- A register that stands in its law and its steps stands whole.
-use Rattle.std.proofs.Common.{◌≡◌, ℕ, zero, suc, ◌<◌, ◌&&◌, ◌||◌, not, Bool, if◌then◌else◌, refl, sym, ◌∙◌, ap, subst, arith, Option, None}
+use Rattle.std.proofs.Common.{◌≡◌, ℕ, zero, suc, ◌<◌, ◌&&◌, ◌||◌, not, Bool, if◌then◌else◌, refl, ◌∙◌, ap, subst, arith}
 use Rattle.afr_base.specs.Bricks.{member}
-use Rattle.afr_base.specs.SetLemmas.{count_same}
-use Rattle.afr_base.specs.declared.ids.BrickId.{BrickId}
 use Rattle.afr_base.specs.declared.ids.Shape.{Shape}
 use Rattle.afr_model_moves.specs.Rules.{Register as LawRegister}
 use Rattle.afr_model_moves.specs.Note.{stopping, stops_at}
 use Rattle.afr_model_moves.specs.Register as exact
-use Rattle.afr_model_moves.specs.Register.{Exact, asked_in, good, over, same_step}
+use Rattle.afr_model_moves.specs.Register.{Exact, over}
 use Rattle.afr_model_moves.specs.Steps.{goes_on, looks_at}
 use Rattle.afr_discipline.specs.declared.register.Register.{Register}
 use Rattle.afr_discipline.specs.Notes.{joined, stopped}

@@ -13,7 +13,6 @@ use Rattle.afr_plan.specs.Happening.{Stop, Start}
 use Rattle.afr_plan.specs.Names.{file_name, file_names, number_of, with_name, with_names}
 use Rattle.afr_plan.specs.PlanOf.{onto_last, path_of, plan_of, with_line}
 use Rattle.afr_plan.specs.Said as said
-use Rattle.afr_plan.specs.Said.{Said}
 use Rattle.afr_plan.specs.Action as action
 use Rattle.afr_plan.specs.declared.command.Command.{Command}
 use Rattle.afr_plan.specs.declared.command.Command.TheVariants.{Write, Read, SetAttr}

@@ -1,14 +1,10 @@
 -- The lines of a heal's machine and those of the engine.
-use Rattle.std.proofs.Common.{◌≡◌, ℕ, zero, suc, ◌<◌, ◌≤◌, ◌&&◌, nat_lt, Bool, true, false, refl, ap, subst, arith, Option, None, Some, if◌then◌else◌}
+use Rattle.std.proofs.Common.{◌≡◌, ℕ, zero, suc, ◌<◌, ◌≤◌, ◌&&◌, Bool, true, false, refl, ap, subst, arith, Option, None, Some, if◌then◌else◌}
 use Rattle.afr_base.specs.declared.ids.BrickId.{BrickId}
-use Rattle.afr_base.specs.declared.ids.Gfid.{Gfid}
-use Rattle.afr_base.specs.declared.ids.Kind.{Kind}
 use Rattle.afr_lines.specs.declared.request.Request.{Request}
 use Rattle.afr_model_moves.specs.Register.{over}
 use Rattle.afr_model_moves.specs.Steps.{is_lowest}
-use Rattle.afr_discipline.specs.declared.register.Register.{Register}
 use Rattle.afr_discipline.specs.Turns.{brick_of, find, later}
-use Rattle.afr_heal.specs.Carried.{Heals}
 use Rattle.afr_heal.specs.Engine.{NextOfHeal, Ask, or_else}
 use Rattle.afr_heal.proofs.Finding.{find_none, find_some, over_all}
 use Rattle.afr_heal.proofs.Parts.{not_both}

@@ -6,7 +6,6 @@ use Rattle.afr_heal.specs.Standing.{AfterLooks, AtFirst, AtHeal, AtLooks, AtPart
 use Rattle.afr_lines.specs.declared.request.Area.{Area}
 use Rattle.afr_model_moves.specs.Register.{Exact, HealLocks, HealPart, Looks, Opening, Step, Untouched, WorkLocks, is_opening, whole_area}
 use Rattle.afr_model_moves.specs.Note.{stopping}
-use Rattle.afr_lines.specs.declared.request.Request.{Request}
 use Rattle.afr_model_moves.specs.Rules as weak
 use Rattle.afr_model_moves.specs.Rules.{Register, begun, busy, is_area}
 use Rattle.afr_model_moves.specs.Sets.{empty, with, without}

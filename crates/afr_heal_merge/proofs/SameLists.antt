@@ -1,7 +1,5 @@
 -- Lists that are the same from one place on.
 use Rattle.std.proofs.Common.{◌≡◌, ℕ, zero, suc, List, [], ◌∷◌, drop, Some, slice_get}
-use Rattle.afr_base.specs.declared.ids.NameId.{NameId}
-use Rattle.afr_object.specs.declared.entry.Entry.{Entry}
 
 -- Two lists with one item at a place are the same from there on, where they are so from the next.
 pub same_step : {A : Type 0} (xs ys : List A) (k : ℕ) (x : A) → slice_get xs k ≡ Some x → slice_get ys k ≡ Some x → drop (suc k) xs ≡ drop (suc k) ys → drop k xs ≡ drop k ys

@@ -2,7 +2,6 @@
 use Rattle.std.specs.Prelude.{◌<◌, ◌≤◌, Bool, false, List, length}
 use Rattle.afr_base.specs.declared.ids.ActorId.{ActorId}
 use Rattle.afr_base.specs.declared.ids.BrickId.{BrickId}
-use Rattle.afr_lines.specs.declared.answer.Told.TheVariants.{NotConnected}
 use Rattle.afr_lines.specs.declared.line.Line.{Line}
 use Rattle.afr_lines.specs.declared.line.Line.TheVariants.{Ask}
 use Rattle.afr_lines.specs.declared.request.Request.{Request}

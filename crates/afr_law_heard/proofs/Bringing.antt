@@ -38,7 +38,7 @@ use Rattle.afr_client_transaction.specs.Progress as transaction
 use Rattle.afr_client_transaction.specs.declared.stage.Stage.{Stage}
 use Rattle.afr_client_transaction.specs.declared.stage.Stage.TheVariants.{Locking, Looking, Beginning, Preparing, Applying, Posting, Closing}
 use Rattle.afr_law_client.specs.Tells.{During, HasSets}
-use Rattle.afr_client_walk.specs.Walk.{is_walking, next_in}
+use Rattle.afr_client_walk.specs.Walk.{next_in}
 use Rattle.afr_client_walk.specs.Walk as walk
 use Rattle.afr_client_walk.specs.declared.walk.Walk.{Walk}
 use Rattle.afr_client_walk.specs.declared.walk.WalkStep.{WalkStep}

@@ -38,7 +38,7 @@ use Rattle.afr_client_walk.specs.Walk as walk
 use Rattle.afr_client_walk.specs.declared.walk.Walk.{Walk}
 use Rattle.afr_client_walk.specs.declared.walk.WalkStep.{WalkStep}
 use Rattle.afr_client_walk.specs.declared.walk.WalkStep.TheVariants as walking
-use Rattle.afr_law_client.specs.Write.WriteTelling.{CanHear, CanTell}
+use Rattle.afr_law_client.specs.Write.WriteTelling.{CanHear}
 use Rattle.afr_law_client.specs.Write.WriteTelling as write_telling
 use Rattle.afr_law_heard.proofs.Seen.{finds_source, good_in}
 use Rattle.afr_law_heard.proofs.SomeLines.{AreIn, work_in}

@@ -1,5 +1,5 @@
 -- What a line of a work was given is what the work has read in the words of the discipline.
-use Rattle.std.proofs.Common.{◌≡◌, ℕ, ◌≤◌, true, false, true≢false, inl, inr, refl, sym, ◌∙◌, ap, subst, arith, List, ◌∷◌, length, Some}
+use Rattle.std.proofs.Common.{◌≡◌, ℕ, ◌≤◌, true, false, true≢false, inl, inr, refl, ◌∙◌, ap, subst, arith, List, ◌∷◌, length, Some}
 use Rattle.std.proofs.lemmas.Bool.{cases_lt}
 use Rattle.std.proofs.lemmas.Bool.Decides.{nat_tests}
 use Rattle.afr_base.specs.declared.ids.Gfid.{Gfid}

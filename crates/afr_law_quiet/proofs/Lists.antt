@@ -1,4 +1,3 @@
-pub mod Rises
 pub mod Index
 pub mod Opened
 pub mod Runs

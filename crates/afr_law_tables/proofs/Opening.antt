@@ -12,7 +12,7 @@ use Rattle.afr_law_tables.specs.Codes.{kind_code, kind_in, code_in}
 use Rattle.afr_model_moves.specs.Past.{keep}
 use Rattle.afr_law_tables.proofs.Entries.{entry_same, entry_some}
 use Rattle.afr_law_tables.proofs.Copies.{kind_applied}
-use Rattle.afr_law_tables.proofs.Values.{code_applied, after_change}
+use Rattle.afr_law_tables.proofs.Values.{code_applied}
 use Rattle.afr_law_tables.proofs.Sound.{sound_opening}
 
 -- the change that makes the next opening file

@@ -1,2 +1,3 @@
 pub mod StartedLemmas
+pub mod Rises
 pub mod Cut

@@ -1,11 +1,10 @@
 -- The locks on a brick.
-use Rattle.afr_lines.specs.Overlap.{same_area, overlap}
+use Rattle.afr_lines.specs.Overlap.{same_area}
 use Rattle.std.specs.Prelude.{ℕ, ◌==◌, ◌&&◌, not, Bool, false, List, [], ◌∷◌, ◌++◌, filter, if◌then◌else◌}
 use Rattle.afr_lines.specs.declared.answer.Told.TheVariants.{Granted}
 use Rattle.afr_lines.specs.declared.line.Line.{Line}
 use Rattle.afr_lines.specs.declared.line.Line.TheVariants.{Ask}
 use Rattle.afr_lines.specs.declared.request.Area.{Area}
-use Rattle.afr_lines.specs.declared.request.Area.TheVariants.{Range, Name}
 use Rattle.afr_lines.specs.declared.request.Request.TheVariants.{Lock, Unlock}
 use Rattle.afr_lines.specs.Locks.{is_lock}
 use Rattle.afr_lines.specs.declared.lock.HeldLock.{HeldLock}

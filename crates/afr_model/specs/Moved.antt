@@ -7,7 +7,6 @@ use Rattle.afr_base.specs.declared.ids.Shape.{Shape}
 use Rattle.afr_choice.specs.Looks.{view_at}
 use Rattle.afr_choice.specs.Verdict.{accuses_at, copies_of}
 use Rattle.afr_choice.specs.declared.looked.Looked.{Looked}
-use Rattle.afr_object.specs.declared.entry.View.{View}
 use Rattle.afr_lines.specs.Work.{Work}
 use Rattle.afr_lines.specs.declared.line.Line.{Line}
 use Rattle.afr_lines.specs.declared.line.Line.TheVariants.{Ask, HealBegin}

@@ -22,7 +22,7 @@ use Rattle.afr_plan.specs.declared.command.Command.{Command}
 use Rattle.afr_plan.specs.declared.command.Command.TheVariants as command
 use Rattle.afr_plan.specs.declared.plan.Plan.{Plan}
 use Rattle.afr_model.specs.Answered.{IsAbout, is_by_views}
-use Rattle.afr_model.specs.Commands.{area_on, last_of, steps_of}
+use Rattle.afr_model.specs.Commands.{last_of, steps_of}
 use Rattle.afr_model.specs.Keeping.{KeepsTo}
 use Rattle.afr_model.specs.Refusals.{by_area, refusal}
 use Rattle.afr_model.specs.Showing.{Path, At, path_by, among, begins_attempt, has, is_faulted, posted, refuses_read, tells_fault}

@@ -7,10 +7,8 @@ use Rattle.afr_lines.specs.declared.answer.Told.TheVariants.{NotConnected}
 use Rattle.afr_lines.specs.declared.line.Event.{Event}
 use Rattle.afr_lines.specs.declared.line.Event.TheVariants as event
 use Rattle.afr_lines.specs.declared.line.Line.{Line}
-use Rattle.afr_lines.specs.declared.line.Line.TheVariants.{Ask, End, HealEnd}
+use Rattle.afr_lines.specs.declared.line.Line.TheVariants.{Ask}
 use Rattle.afr_lines.specs.declared.line.Line.TheVariants as line_of
-use Rattle.afr_lines.specs.declared.request.Request.TheVariants.{Lock, Index}
-use Rattle.afr_lines.specs.declared.lock.Domain.TheVariants.{Heal}
 use Rattle.afr_plan.specs.declared.plan.Plan.{Plan}
 use Rattle.afr_model.specs.Report.{started_bricks}
 

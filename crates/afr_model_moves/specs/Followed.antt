@@ -1,7 +1,6 @@
 -- What the lines so far leave in the register of an actor, from the oldest on.
 use Rattle.std.specs.Prelude.{ℕ, Bool, List, [], ◌∷◌, length, Some, if◌then◌else◌}
 use Rattle.afr_base.specs.declared.ids.Kind.{Kind}
-use Rattle.afr_base.specs.declared.ids.Shape.{Shape}
 use Rattle.afr_lines.specs.Places.{opens, place_of}
 use Rattle.afr_lines.specs.Work.{is_of}
 use Rattle.afr_lines.specs.declared.line.Line.{Line}

@@ -3,7 +3,7 @@ use Rattle.std.proofs.Common.{◌≡◌, ◌≤◌, refl, sym, subst}
 use Rattle.afr_base.specs.declared.ids.ActorId.{ActorId}
 use Rattle.afr_volume.specs.Going.{AfterEvent, AfterTurn, AtFirst, ClientsRun, IsHappening, Later, Still}
 use Rattle.afr_volume.specs.State.{State}
-use Rattle.afr_volume.specs.Turning.{Comes, Turns}
+use Rattle.afr_volume.specs.Turning.{Turns}
 use Rattle.afr_volume.specs.declared.turned.Turned.{Turned}
 
 pub runs_then : (a b c : State) → ClientsRun a b → ClientsRun b c → ClientsRun a c

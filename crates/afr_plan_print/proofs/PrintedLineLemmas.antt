@@ -10,7 +10,7 @@ use Rattle.afr_plan.specs.Bytes.{plain}
 use Rattle.afr_plan.specs.Spelling.{WordThen, Both, IsKey, IsNumber, IsSmall, IsPath, IsNamedPath}
 use Rattle.afr_plan.specs.Data.{IsData}
 use Rattle.afr_plan.specs.Happening.{Who, IsWho, OfClient, OfHealer, Happening, IsHappening, Stop, Start, Cut, Join, Kill}
-use Rattle.afr_plan.specs.Action.{Action, IsCommand, action_word, Write, Read, Create, Mkdir, Unlink, Rmdir, Ls, Stat, SetAttr, GetAttr, Rename}
+use Rattle.afr_plan.specs.Action.{Action, IsCommand, Write, Read, Create, Mkdir, Unlink, Rmdir, Ls, Stat, SetAttr, GetAttr, Rename}
 use Rattle.afr_plan.specs.Action as action
 use Rattle.afr_plan.specs.Said.{five_replicas, Said, IsSaid, IsShape, IsFault, Afr, Volume, Files, Turns, Client, Command, Healer, Round, Faulty, At, Go, End}
 use Rattle.afr_plan.specs.Rules.{is_beyond, is_path_beyond, is_work_beyond, is_brick_beyond, is_who_beyond, is_event_beyond, is_count_beyond}

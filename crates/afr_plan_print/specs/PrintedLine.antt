@@ -4,7 +4,7 @@ use Rattle.afr_base.specs.declared.ids.Shape.{Shape}
 use Rattle.afr_lines.specs.declared.fault.Fault.{Fault}
 use Rattle.afr_lines.specs.declared.fault.Fault.TheVariants.{Fail, Lost}
 use Rattle.afr_plan.specs.Happening.{Who, OfClient, OfHealer, Happening, Stop, Start, Cut, Join, Kill}
-use Rattle.afr_plan.specs.Action.{Action, action_word, Write, Read, Create, Mkdir, Unlink, Rmdir, Ls, Stat, SetAttr, GetAttr, Rename}
+use Rattle.afr_plan.specs.Action.{Action, action_word, Write, Read, SetAttr, GetAttr, Rename}
 use Rattle.afr_plan.specs.Action as action
 use Rattle.afr_plan.specs.Said.{Said, Afr, Volume, Files, Turns, Client, Command, Healer, Round, Faulty, At, Go, End}
 use Rattle.afr_plan.specs.declared.version.Version.{Version}

@@ -10,7 +10,6 @@ use Rattle.std.proofs.lemmas.Slice.Eq.{bytes_eq-Decides}
 use Rattle.std.proofs.lemmas.List.Folds.{list_any-append}
 use Rattle.indexmap.specs.IndexSet.{insert_all}
 use Rattle.indexmap.proofs.SetLemmas.{set_all_distinct}
-use Rattle.afr_base.specs.declared.ids.NameId.{NameId}
 use Rattle.afr_plan_read.specs.declared.keyed.Word.{Word}
 use Rattle.afr_plan.specs.Names.{with_name, file_name, file_names}
 

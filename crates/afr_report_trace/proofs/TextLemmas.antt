@@ -1,11 +1,7 @@
 -- A table of texts: what lies between two cuts, and one text more.
-use Rattle.std.proofs.Common.{◌≡◌, ◌∙◌, ℕ, zero, suc, ◌+◌, ◌-◌, ◌<◌, ◌≤◌, List, [], ◌∷◌, ◌++◌, refl, sym, ap, arith, add-one, append_assoc, append-nil, length, length-append, length-drop, get_or, take, drop}
+use Rattle.std.proofs.Common.{◌≡◌, ◌∙◌, ℕ, zero, suc, ◌+◌, ◌-◌, ◌<◌, ◌≤◌, List, [], ◌∷◌, ◌++◌, refl, sym, ap, arith, add-one, length, length-append, length-drop, get_or, take, drop}
 use Rattle.std.proofs.lemmas.List.{drop-append-le, drop_all, get_or_append_left, take-append-le, take_all}
-use Rattle.std.proofs.lemmas.List.Elements.{All-weaker}
-use Rattle.std.specs.Prelude.{All}
-use Rattle.afr_plan.specs.declared.plan.Plan.{Plan}
-use Rattle.afr_report_trace.specs.Texts.{AreCuts, Grows, IsSpelled, IsText, Rises, texts_from, texts_in}
-use Rattle.afr_report_trace.specs.declared.spelled.Spelled.{Spelled}
+use Rattle.afr_report_trace.specs.Texts.{AreCuts, Grows, IsText, Rises, texts_from, texts_in}
 
 -- ---- cuts
 within : (at : ℕ) (cuts : List ℕ) (end : ℕ) → Rises at cuts end → at ≤ end

@@ -10,7 +10,7 @@ use Rattle.afr_server.specs.declared.server.Served.{Served}
 use Rattle.afr_server.specs.Outcome.{Serves}
 use Rattle.afr_server.specs.Serving.{Serving, epoch_of, is_met}
 use Rattle.afr_servers.proofs.PlaceLemmas.{got_other, got_same, one_there}
-use Rattle.afr_servers.specs.Calls.{AsksFirst, IsMet, MeetsAll, MeetsBetween}
+use Rattle.afr_servers.specs.Calls.{AsksFirst, IsMet, MeetsBetween}
 use Rattle.afr_servers.specs.Found.{epoch_at}
 use Rattle.afr_servers.specs.declared.epochs.Epochs.{Epochs}
 

@@ -8,7 +8,7 @@ use Rattle.afr_object.specs.Tables.{is_dir, root}
 use Rattle.afr_object.specs.declared.change.Change.{Change}
 use Rattle.afr_object.specs.declared.change.Change.TheVariants as change
 use Rattle.afr_lines.specs.declared.line.Event.TheVariants as event
-use Rattle.afr_lines.specs.declared.line.Line.TheVariants.{Begin, HealBegin}
+use Rattle.afr_lines.specs.declared.line.Line.TheVariants.{HealBegin}
 use Rattle.afr_lines.specs.declared.line.Line.TheVariants as line_of
 use Rattle.afr_lines.specs.declared.answer.Told.TheVariants as told
 use Rattle.afr_lines.specs.declared.reply.Good.TheVariants as good

@@ -22,7 +22,7 @@ use Rattle.afr_model.specs.Honest.{Honest}
 use Rattle.afr_model.specs.Rounds.{IsOfHeal, KeepsToRound, heal_due, listed_by, object_healed}
 use Rattle.afr_test_model.proofs.HealWords.{heal_ends, index, less_0, less_1, less_2, opened, raise, settle}
 use Rattle.afr_test_model.proofs.Means.{from_none, three, two}
-use Rattle.afr_test_model.proofs.WholeWrite.{failing, a_write_follows_its_plan, a_write_is_honest, every_line_is_of_the_write, a_write_accuses_the_one_that_missed_it}
+use Rattle.afr_test_model.proofs.WholeWrite.{failing, a_write_follows_its_plan, a_write_is_honest}
 use Rattle.afr_test_model.proofs.WholeWrite as client_part
 use Rattle.afr_test_model.proofs.Words.{at_each, at_two, brick, file, heal_ask, healer}
 

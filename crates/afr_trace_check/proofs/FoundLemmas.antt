@@ -22,7 +22,6 @@ use Rattle.afr_trace_follow.specs.Planned.{IsPlanned}
 use Rattle.afr_trace_safe.specs.Touched.{WasSafe, touched}
 use Rattle.afr_trace_check.specs.Taken.{BreaksOne, IsOutcomeOf, KeepsRules}
 use Rattle.afr_trace_read.specs.Seen.{seen_line}
-use Rattle.afr_trace_read.specs.Trace.{Told}
 use Rattle.afr_trace_read.specs.declared.kinds.TraceLine.{TraceLine}
 use Rattle.afr_trace_read.specs.declared.trace.SpelledLine.{SpelledLine}
 

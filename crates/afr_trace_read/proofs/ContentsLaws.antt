@@ -22,7 +22,7 @@ use Rattle.afr_lines.specs.declared.reply.Good.TheVariants as good
 use Rattle.afr_plan.specs.Bytes as plan
 use Rattle.afr_plan.specs.Bytes.{digit}
 use Rattle.afr_plan.specs.Data.{hex_bytes, hex_value, is_paired}
-use Rattle.afr_plan.specs.Reading.{◌>>=◌, as_a, checked, run_of, whole, word, word_then, both}
+use Rattle.afr_plan.specs.Reading.{◌>>=◌, as_a, checked, run_of, whole, word, word_then}
 use Rattle.afr_plan.specs.declared.plan.Plan.{Plan}
 use Rattle.afr_model.specs.ReportReplies.{hex_digit, hex_text}
 use Rattle.afr_plan_read.proofs.Laws.{Any, bind_some, checked_some, first_of, Stops}

@@ -1,5 +1,5 @@
 -- The attempts on an object, gathered from the newest line on.
-use Rattle.std.proofs.Common.{◌≡◌, ◌∙◌, ℕ, zero, suc, ◌+◌, ◌-◌, ◌<◌, ◌≤◌, Bool, true, false, List, [], ◌∷◌, ◌++◌, refl, sym, ap, arith, append-nil, append_assoc, Some, slice_get, if◌then◌else◌, ◌⊎◌, inl, inr}
+use Rattle.std.proofs.Common.{◌≡◌, ◌∙◌, ℕ, zero, suc, ◌+◌, ◌-◌, ◌<◌, ◌≤◌, Bool, true, false, List, [], ◌∷◌, ◌++◌, refl, sym, ap, arith, append-nil, append_assoc, Some, slice_get, if◌then◌else◌, ◌⊎◌}
 use Rattle.std.proofs.lemmas.Option.{same_Some}
 use Rattle.afr_base.specs.declared.ids.Gfid.{Gfid}
 use Rattle.afr_lines.specs.Log.{change_at}

@@ -8,7 +8,6 @@ use Rattle.std.specs.Map.{lookup}
 use Rattle.afr_base.specs.Bricks.{and_left, and_right}
 use Rattle.afr_base.specs.declared.ids.Gfid.{Gfid}
 use Rattle.afr_base.specs.declared.ids.KeyId.{KeyId}
-use Rattle.afr_base.specs.declared.ids.Kind.{Kind}
 use Rattle.afr_base.specs.declared.ids.Kind.TheVariants.{Bytes, Attrs, Names}
 use Rattle.afr_base.specs.declared.ids.NameId.{NameId}
 use Rattle.afr_base.specs.declared.ids.ValueId.{ValueId}

@@ -1,23 +1,22 @@
 -- What a change and a repair make of tables, they make of the same tables without numbers.
-use Rattle.std.proofs.Common.{◌≡◌, ℕ, zero, suc, ◌&&◌, List, [], ◌∷◌, Option, Some, None, refl, sym, ap, ◌∙◌, Bool, true, false, cond, take, map}
+use Rattle.std.proofs.Common.{◌≡◌, ℕ, zero, suc, ◌&&◌, List, [], ◌∷◌, Option, Some, None, refl, sym, ap, ◌∙◌, Bool, true, false, cond, take}
 use Rattle.std.specs.Prelude.{is_some, option_map}
 use Rattle.std.specs.BTreeMap.{insert_entry, is_at}
-use Rattle.std.specs.Map.{lookup, remove_entry, set_value}
+use Rattle.std.specs.Map.{remove_entry, set_value}
 use Rattle.std.specs.Ordering.{match_ordering}
 use Rattle.std.specs.declared.cmp.Ordering.{Ordering}
 use Rattle.std.specs.declared.cmp.Ordering.TheVariants.{Less, Equal, Greater}
 use Rattle.std.proofs.lemmas.Map.Made.{lookup-map_values}
 use Rattle.std.proofs.lemmas.Map.Steps.{set_value_same}
-use Rattle.afr_base.specs.Marks.{marks_of, with_marks}
 use Rattle.afr_base.specs.declared.ids.Gfid.{Gfid}
 use Rattle.afr_base.specs.declared.ids.Kind.{Kind}
 use Rattle.afr_base.specs.declared.ids.NameId.{NameId}
 use Rattle.afr_base.specs.declared.ids.What.{What}
-use Rattle.afr_base.specs.declared.ids.What.TheVariants.{File, Dir}
+use Rattle.afr_base.specs.declared.ids.What.TheVariants.{File}
 use Rattle.afr_base.specs.declared.marks.Marks.{Marks}
 use Rattle.afr_object.specs.Bytes.{copied_in, written}
 use Rattle.afr_object.specs.Object.{Object}
-use Rattle.afr_object.specs.Repairs.{Contents, Nothing, Bytes, Attrs, Names, all_made, mended, renamed, with_attrs}
+use Rattle.afr_object.specs.Repairs.{Contents, Bytes, Attrs, Names, all_made, mended, renamed, with_attrs}
 use Rattle.afr_object.specs.Tables.{Table, applied, changed, copy_at, gfid_cmp, is_dir, is_file, linked, made, name_cmp, new_object, opening, opening_gfid, root, with_attr, with_bytes, with_copy, with_names, with_numbers}
 use Rattle.afr_object.specs.declared.change.Change.{Change}
 use Rattle.afr_object.specs.declared.change.Change.TheVariants.{Write, Cut, SetAttr, Make, Remove}

@@ -18,7 +18,7 @@ use Rattle.afr_model.specs.Sums.{blames, closes_op, dirty_of, has_object, opens_
 use Rattle.afr_object.specs.Tables.{gfid_cmp}
 use Rattle.afr_object.specs.TablesLemmas.{same_gfid}
 use Rattle.afr_plan.specs.declared.plan.Plan.{Plan}
-use Rattle.afr_trace_tally.specs.Counts.{AreCounted, IsOne, IsRoomy, IsSmall, count_at, count_here, count_of, counted_by, counted_in, counts_for, no_count, or_none, plus, with_counts}
+use Rattle.afr_trace_tally.specs.Counts.{AreCounted, IsOne, IsSmall, count_at, count_here, count_of, counted_by, counted_in, counts_for, no_count, or_none, plus, with_counts}
 use Rattle.afr_trace_tally.specs.Flags.{five}
 use Rattle.afr_trace_tally.specs.declared.counts.Count.{Count}
 use Rattle.afr_trace_tally.specs.declared.counts.Counted.{Counted}

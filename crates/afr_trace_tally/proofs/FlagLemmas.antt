@@ -1,5 +1,5 @@
 -- Flags for five bricks.
-use Rattle.std.proofs.Common.{◌≡◌, ◌∙◌, ℕ, zero, suc, ◌<◌, ◌≤◌, ◌⊎◌, inl, inr, sym, nat_lt, leb, Bool, true, false, [], ◌∷◌, refl, arith, get_or}
+use Rattle.std.proofs.Common.{◌≡◌, ◌∙◌, ℕ, zero, suc, ◌<◌, ◌≤◌, ◌⊎◌, inl, inr, sym, nat_lt, leb, Bool, true, false, [], ◌∷◌, refl, arith}
 use Rattle.std.proofs.lemmas.Bool.Decides.{leb_tells}
 use Rattle.afr_base.specs.Bricks.{member, below}
 use Rattle.afr_base.specs.SetLemmas.{below_all, within_below}

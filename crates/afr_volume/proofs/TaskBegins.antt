@@ -1,5 +1,5 @@
 -- The healers begin to crawl, before the first line; and a worker is given a task.
-use Rattle.std.proofs.Common.{◌≡◌, ◌∙◌, ℕ, zero, suc, ◌+◌, ◌-◌, ◌<◌, ◌≤◌, Bool, true, false, List, [], ◌∷◌, Option, None, Some, refl, sym, ap, arith, subst, length, length-set, map, option_map, replicate, slice_get, slice_set, nat_lt}
+use Rattle.std.proofs.Common.{◌≡◌, ◌∙◌, ℕ, zero, suc, ◌+◌, ◌-◌, ◌<◌, ◌≤◌, Bool, true, false, List, [], ◌∷◌, Option, None, Some, refl, sym, ap, arith, subst, length, length-set, map, option_map, slice_get, slice_set, nat_lt}
 use Rattle.std.proofs.lemmas.Bool.Decides.{nat_tests}
 use Rattle.std.proofs.lemmas.Option.{slice_get_within}
 use Rattle.afr_base.specs.declared.ids.BrickId.{BrickId}
@@ -11,13 +11,11 @@ use Rattle.afr_heal_round.specs.declared.stage.RoundStage.{RoundStage}
 use Rattle.afr_heal_round.specs.declared.stage.RoundStage.TheVariants.{Asking, Healing, Over}
 use Rattle.afr_healer.specs.Keeping.{CarriesIts, Crawls, Duty, HasBegun, IsBetweenRounds, IsHealer, IsOnDuty, Rounds, StageStands, Task}
 use Rattle.afr_healer.specs.declared.healer.Healer.{Healer}
-use Rattle.afr_law_bound.specs.Ends.Cost.{costs_of}
 use Rattle.afr_law_cost.specs.Healer.Paced.{IsPacedRound}
 use Rattle.afr_law_picks.specs.Sources.Sources.{source_at, sources_of}
 use Rattle.afr_law_picks.proofs.Sources.Turns.{set_same}
-use Rattle.afr_lines.specs.Work.{ended, work}
+use Rattle.afr_lines.specs.Work.{ended}
 use Rattle.afr_lines.specs.declared.line.Line.{Line}
-use Rattle.afr_model.specs.Actors.{rounds_of}
 use Rattle.afr_model.specs.Crawl.{AreOfItem, CanCrawl, IsGiven, IsWorker}
 use Rattle.afr_plan.specs.declared.plan.Plan.{Plan}
 use Rattle.afr_server.specs.Serving.{Serving}

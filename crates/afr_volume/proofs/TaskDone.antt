@@ -1,5 +1,5 @@
 -- Who is done: a worker at a task isn't.
-use Rattle.std.proofs.Common.{◌≡◌, ◌∙◌, ℕ, suc, ◌+◌, ◌-◌, ◌<◌, ◌≤◌, ◌||◌, ◌&&◌, not, Bool, true, false, List, Option, None, Some, refl, sym, ap, arith, subst, length, option_map, slice_get, nat_le, nat_lt, reverse}
+use Rattle.std.proofs.Common.{◌≡◌, ◌∙◌, ℕ, suc, ◌+◌, ◌-◌, ◌<◌, ◌≤◌, ◌||◌, ◌&&◌, not, Bool, true, false, List, Option, None, Some, refl, sym, ap, arith, subst, length, option_map, slice_get, nat_le, nat_lt}
 use Rattle.std.proofs.lemmas.Bool.Decides.{nat_tests}
 use Rattle.std.specs.Prelude.{is_some, option_and_then}
 use Rattle.afr_base.specs.declared.ids.Gfid.{Gfid}

@@ -15,7 +15,7 @@ use Rattle.afr_lines.specs.declared.line.Line.TheVariants as line_of
 use Rattle.afr_model.specs.Actors.{rounds_of}
 use Rattle.afr_model.specs.Crawl.{AreOfItem, CanCrawl, IsWorker}
 use Rattle.afr_plan.specs.declared.plan.Plan.{Plan}
-use Rattle.afr_volume.specs.Keeping.{AreCrawling, IsAtIts, IsAtTask}
+use Rattle.afr_volume.specs.Keeping.{AreCrawling, IsAtIts}
 use Rattle.afr_volume.specs.Tasks.{of_workers, task_at, task_of, tasks_of}
 use Rattle.afr_volume.specs.Turning.{KillsHealersIn, ReadiedHealerAt}
 use Rattle.afr_volume.proofs.PaceAll.{set_each}

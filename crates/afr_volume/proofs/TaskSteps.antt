@@ -10,8 +10,8 @@ use Rattle.afr_base.specs.declared.ids.What.{What}
 use Rattle.afr_base.specs.declared.ids.What.TheVariants.{Dir, File}
 use Rattle.afr_heal.specs.Engine.{Ask as Asks, Begins, Ends as HealEnds, NextOfHeal}
 use Rattle.afr_heal_machine.specs.Healing.{Healing, coming, line_of}
-use Rattle.afr_heal_round.specs.List.Round.{RoundProgress, next_due, without_next}
-use Rattle.afr_heal_round.specs.Rounding.{IsAnswered, IsAnsweredAt, Rounding, begun, healed, next_at, next_of}
+use Rattle.afr_heal_round.specs.List.Round.{RoundProgress, next_due}
+use Rattle.afr_heal_round.specs.Rounding.{IsAnswered, IsAnsweredAt, Rounding, begun, healed, next_at}
 use Rattle.afr_heal_round.specs.declared.stage.RoundStage.{RoundStage}
 use Rattle.afr_heal_round.specs.declared.stage.RoundStage.TheVariants.{Asking, Healing as At, Over}
 use Rattle.afr_healer.specs.Acting.{Stepped, SteppedBy}

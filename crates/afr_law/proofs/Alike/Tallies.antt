@@ -11,7 +11,7 @@ use Rattle.afr_lines.specs.declared.request.Request.TheVariants.{Pre, Post, Mend
 use Rattle.afr_lines.specs.declared.answer.Told.{Told}
 use Rattle.afr_model_moves.specs.Sets.{with, without}
 use Rattle.afr_model_moves.specs.Cells.{Cell}
-use Rattle.afr_model_moves.specs.Past.{Beginning, Log, is_of, is_gone, opens, place, last, mends}
+use Rattle.afr_model_moves.specs.Past.{Beginning, Log, is_of, is_gone, last, mends}
 use Rattle.afr_model_moves.specs.Honest.{Honest}
 use Rattle.afr_model_moves.specs.Tally.{Tally, blank, note_tally, in_tally, tally}
 use Rattle.afr_model_moves.specs.Rules.{Register, fresh, begun, is_area, locking, note_ask, dropping, note, piece, in_force, register, MayAsk, MayMend, Lawful, opened, present, looked, viewed, busy, second_of, second_freed}

@@ -33,7 +33,7 @@ use Rattle.afr_lines.specs.declared.lock.Domain.TheVariants.{Heal, Work}
 use Rattle.std.proofs.Common.{Bool, arith, inl, inr, refl, subst, sym, true≢false, ℕ, ◌<◌, ◌≡◌}
 use Rattle.std.specs.Prelude.{None, Option, Some}
 use Rattle.afr_model_moves.specs.Rules as weak
-use Rattle.afr_model_moves.specs.Rules.{Register, CoversAll, Lawful, heal_area}
+use Rattle.afr_model_moves.specs.Rules.{CoversAll, Lawful, heal_area}
 use Rattle.afr_law.proofs.Heals.Mended.{IsWide}
 use Rattle.afr_model_moves.specs.Honest.{Honest}
 use Rattle.std.proofs.lemmas.Bool.{or_parts}

@@ -22,7 +22,7 @@ use Rattle.std.proofs.Common.{Bool, arith, false, inl, inr, refl, subst, suc, sy
 use Rattle.std.proofs.lemmas.Bool.Decides.{nat_tests}
 use Rattle.std.specs.Prelude.{None, Option, Some, if◌then◌else◌, ◌==◌}
 use Rattle.afr_model_moves.specs.Rules as weak
-use Rattle.afr_model_moves.specs.Rules.{Register, busy, is_area}
+use Rattle.afr_model_moves.specs.Rules.{Register, busy}
 use Rattle.afr_model_moves.specs.Transaction.{Outside, MayBegin}
 use Rattle.afr_model_moves.specs.Register.{Exact, Step, HealPart, Untouched, Open, Pres, Applies, Posts, HealLocks, Looks}
 use Rattle.afr_model_moves.specs.Discipline.{note, present, MayExactly, MayAskExactly, MovesExactly}

@@ -19,7 +19,7 @@ use Rattle.afr_lines.specs.declared.lock.Domain.TheVariants.{Heal, Work}
 use Rattle.std.proofs.Common.{Bool, ap, arith, false, inl, inr, refl, suc, sym, true, true≢false, ℕ, ◌&&◌, ◌||◌, ◌∙◌, ◌≡◌, ◌≤◌, ◌⊎◌}
 use Rattle.std.specs.Prelude.{None, Option, Some, if◌then◌else◌}
 use Rattle.afr_model_moves.specs.Rules as weak
-use Rattle.afr_model_moves.specs.Rules.{fresh, busy}
+use Rattle.afr_model_moves.specs.Rules.{busy}
 use Rattle.afr_model_moves.specs.Past.{Log, is_of, is_gone, last, last_after}
 
 abbrev IsStill : Exact → Type 0

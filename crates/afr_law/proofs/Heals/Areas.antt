@@ -27,7 +27,7 @@ use Rattle.std.proofs.Common.{Bool, ap, arith, false, inl, inr, refl, subst, sym
 use Rattle.std.proofs.lemmas.Bool.Decides.{nat_tests}
 use Rattle.std.specs.Prelude.{Option, Some, if◌then◌else◌, nat_lt}
 use Rattle.afr_model_moves.specs.Rules as weak
-use Rattle.afr_model_moves.specs.Rules.{Register, busy, heal_area, is_area}
+use Rattle.afr_model_moves.specs.Rules.{Register, busy, heal_area}
 use Rattle.afr_model_moves.specs.Past.{Log, is_gone}
 use Rattle.afr_model_moves.proofs.Tests.{same_kind_yes}
 

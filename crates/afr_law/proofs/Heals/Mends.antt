@@ -20,7 +20,6 @@ use Rattle.std.proofs.lemmas.Bool.Decides.{nat_tests}
 use Rattle.std.specs.Prelude.{None, Option, Some, nat_le, nat_lt, ◌==◌, ◌^◌}
 use Rattle.afr_model_moves.specs.Past.{is_gone, last, mends}
 use Rattle.afr_model_moves.specs.Rules as weak
-use Rattle.afr_model_moves.specs.Rules.{Register}
 use Rattle.afr_model_moves.specs.Cells.{Attr, Byte, Cell, Entry, is_cell, kind_of, object_of}
 use Rattle.afr_law.proofs.Heals.Mended.{Mended, Brought, Fits, MendedIn, mends_set, unmended_yet}
 use Rattle.std.proofs.lemmas.Bool.{eq-eqb}

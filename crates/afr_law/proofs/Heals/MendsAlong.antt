@@ -24,7 +24,6 @@ use Rattle.std.proofs.Common.{Bool, ap, arith, false, inl, inr, refl, subst, sym
 use Rattle.std.specs.Prelude.{Some, if◌then◌else◌, ◌==◌}
 use Rattle.afr_model_moves.specs.Past.{Log, mends}
 use Rattle.afr_model_moves.specs.Rules as weak
-use Rattle.afr_model_moves.specs.Rules.{Register, heal_area}
 use Rattle.afr_model_moves.specs.Cells.{Cell, Byte, Attr, Entry}
 use Rattle.afr_law.proofs.Heals.Mended.{Mended, Pending, Brought, Fits, MendedIn, IsWide, fits_one, mend_fits, mends_finish}
 use Rattle.std.proofs.lemmas.Bool.{eq-eqb}

@@ -26,7 +26,7 @@ use Rattle.std.proofs.Common.{Bool, [], ap, arith, false, inl, inr, not, refl, s
 use Rattle.std.proofs.lemmas.Bool.Decides.{nat_tests}
 use Rattle.std.specs.Prelude.{None, Option, Some, nat_lt, slice_index, ◌==◌, ◌^◌}
 use Rattle.afr_model_moves.specs.Rules as weak
-use Rattle.afr_model_moves.specs.Rules.{CoversAll, Register}
+use Rattle.afr_model_moves.specs.Rules.{CoversAll}
 use Rattle.std.specs.Prelude.{List as Seq}
 use Rattle.afr_model_moves.specs.Cells.{Attr, Byte, Entry, covers}
 use Rattle.afr_law.proofs.Heals.MendsAlong.{Wide}

@@ -36,7 +36,6 @@ use Rattle.std.proofs.Common.{Bool, ap, arith, false, inl, inr, length, not, ref
 use Rattle.std.proofs.lemmas.Bool.Decides.{nat_tests}
 use Rattle.std.specs.Prelude.{None, Option, Some, if◌then◌else◌, nat_lt, slice_index, ◌==◌}
 use Rattle.afr_model_moves.specs.Rules as weak
-use Rattle.afr_model_moves.specs.Rules.{Register, CoversAll, some_read}
 use Rattle.std.specs.Prelude.{List as Seq}
 use Rattle.afr_law.proofs.Heals.MendsAlong.{Wide}
 use Rattle.afr_law.proofs.Heals.Mended.{Fits, IsWide, fits_one, mend_fits, mends_set, mends_finish}

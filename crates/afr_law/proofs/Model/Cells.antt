@@ -14,7 +14,7 @@ use Rattle.afr_lines.specs.declared.line.Line.{Line}
 use Rattle.afr_lines.specs.declared.line.Line.TheVariants.{Ask, Begin, HealBegin, End, HealEnd, Event}
 use Rattle.afr_lines.specs.declared.reply.Reply.{Reply}
 use Rattle.afr_model.specs.Attempts.{first_reply, earlier, IsAcknowledged}
-use Rattle.afr_model.specs.Cells.{Value, IsByte, IsAttr, IsEntry, value_if, nothing_in, object_of_cell, kind_of_cell}
+use Rattle.afr_model.specs.Cells.{Value, IsByte, IsAttr, IsEntry, value_if, object_of_cell, kind_of_cell}
 use Rattle.afr_model.specs.Cells as model
 use Rattle.afr_model_moves.specs.Cells.{object_of, kind_of, entry_code, is_cell, touches, leaves}
 use Rattle.afr_law_tables.specs.Codes.{value_code, cell_by, cell_of}

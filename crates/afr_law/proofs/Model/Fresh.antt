@@ -31,7 +31,7 @@ use Rattle.afr_model.specs.Attempts.{IsNoOlder}
 use Rattle.afr_model.specs.Cells.{Cell, object_of_cell, kind_of_cell}
 use Rattle.afr_model.specs.Cells as model
 use Rattle.afr_model.specs.Honest.{Honest as IsHonestLog, fault_in}
-use Rattle.afr_model.specs.Safe.{AreFresh, log_before, names_cell}
+use Rattle.afr_model.specs.Safe.{log_before, names_cell}
 use Rattle.afr_model.specs.Parts.{Part, Walks, Makes, Removes, after_names, first_part, is_again, names_asked, part_at, second_part, the_make, the_removal, the_walk, upto_names}
 use Rattle.afr_model.specs.Renamed.{IsOfPart}
 use Rattle.afr_model.specs.Replied.{IsOf}

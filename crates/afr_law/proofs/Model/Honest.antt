@@ -13,7 +13,7 @@ use Rattle.afr_object.specs.Bytes.{byte_at}
 use Rattle.afr_lines.specs.declared.fault.Fault.{Fault}
 use Rattle.afr_lines.specs.declared.fault.Fault.TheVariants.{Fail, Lost as LostAnswer}
 use Rattle.afr_object.specs.Repairs as repairs
-use Rattle.afr_object.specs.Tables.{Table, copy_at, view_of, object_of, opening}
+use Rattle.afr_object.specs.Tables.{copy_at, view_of, object_of, opening}
 use Rattle.afr_object.specs.declared.change.Change.{Change}
 use Rattle.afr_object.specs.declared.change.Change.TheVariants.{Write, Cut, SetAttr, Make, Remove}
 use Rattle.afr_object.specs.declared.change.Repair.{Repair}
@@ -29,7 +29,7 @@ use Rattle.afr_lines.specs.declared.line.Line.TheVariants.{Ask, Begin, HealBegin
 use Rattle.afr_lines.specs.declared.request.Request.{Request}
 use Rattle.afr_lines.specs.declared.request.Request.TheVariants as request
 use Rattle.afr_plan.specs.declared.plan.Plan.{Plan}
-use Rattle.afr_model.specs.Honest.{requests_to, fault_in, copy_answer, copy_for, lock_answer, answer_by, in_the_way, tells, RequestOutcome, over_session, is_live, outcome_of, IsHonest}
+use Rattle.afr_model.specs.Honest.{requests_to, fault_in, copy_answer, copy_for, lock_answer, tells, RequestOutcome, over_session, is_live, IsHonest}
 use Rattle.afr_model.specs.Honest as model
 use Rattle.afr_lines.specs.Locks.{first_conflict}
 use Rattle.afr_model.specs.Locks.{locks_held}
@@ -38,7 +38,7 @@ use Rattle.afr_model.specs.Sums.{has_object}
 use Rattle.afr_model.specs.Tables.{holds}
 use Rattle.afr_model_moves.specs.Cells.{Byte}
 use Rattle.afr_law_tables.specs.Codes.{kind_code, code_in, kept_by}
-use Rattle.afr_model_moves.specs.Past.{Log, before, joined, opening as opens_session, object, object_of_line, repaired, kind_at, value}
+use Rattle.afr_model_moves.specs.Past.{Log, joined, opening as opens_session, object, object_of_line, repaired, value}
 use Rattle.afr_model_moves.specs.Past as past
 use Rattle.afr_model_moves.specs.Honest.{asks, asked, Shows, finds, begins_attempt, Answers, Tells, HonestAsk, HonestLine}
 use Rattle.afr_model_moves.proofs.ByPosition.{IsPast, before_past}

@@ -25,7 +25,7 @@ use Rattle.afr_model.specs.Tables.{holds}
 use Rattle.afr_model_moves.specs.Cells.{is_cell, object_of, kind_of}
 use Rattle.afr_law_tables.specs.Codes.{value_code, cell_of, kept_by}
 use Rattle.afr_model_moves.specs.Past.{Log, changes, leaves_of, value}
-use Rattle.afr_law.specs.Safe.{Safe, IsGoodCopy, Current, Acknowledged}
+use Rattle.afr_law.specs.Safe.{Safe, IsGoodCopy, Current}
 use Rattle.afr_law.specs.Safe as law
 use Rattle.afr_law.proofs.Safety.CellHistory.{safe}
 use Rattle.afr_model_moves.specs.Positions.{by_position}

@@ -21,7 +21,7 @@ use Rattle.afr_model.specs.Sums.{has_object, sum_over, blames, settles_pending, 
 use Rattle.afr_law_tables.specs.SumLaws.{now_at, counts, numbers_asked, numbers_same, numbers_effect, numbers_mended, pre_pending, post_pending, settle_pending, same_pending, five_now, at_first}
 use Rattle.afr_model_moves.specs.Cells.{what_code}
 use Rattle.afr_law_tables.specs.Codes.{kind_code, kept_by}
-use Rattle.afr_model_moves.specs.Past.{Log, Beginning, kind_at, named, taken, posts, settled, pending}
+use Rattle.afr_model_moves.specs.Past.{Log, named, taken, posts, settled, pending}
 use Rattle.afr_model_moves.specs.Past as past
 use Rattle.afr_model_moves.proofs.ByPosition.{IsPast}
 use Rattle.afr_law.proofs.Model.Tables.{kind_is}

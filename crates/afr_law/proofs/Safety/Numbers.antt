@@ -1,5 +1,4 @@
 -- What the number of a register says: its attempt or piece, and the bricks that have it.
-use Rattle.afr_lines.specs.declared.reply.HealReply.{HealReply}
 use Rattle.afr_lines.specs.declared.reply.Reply.{Reply}
 use Rattle.std.specs.Prelude.{List as Seq}
 use Rattle.afr_lines.specs.declared.fault.Fault.TheVariants.{Fail, Lost}

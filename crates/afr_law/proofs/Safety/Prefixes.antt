@@ -1,7 +1,6 @@
 -- From the looks one by one to the whole log, and the law of copies at every prefix.
-use Rattle.std.proofs.Common.{◌≡◌, ℕ, ◌≤◌, ◌-◌, Bool, refl, sym, ◌∙◌, subst, arith, List, length, take, length-take}
+use Rattle.std.proofs.Common.{◌≡◌, ℕ, ◌≤◌, ◌-◌, refl, sym, ◌∙◌, subst, arith, List, length, take, length-take}
 use Rattle.std.specs.Prelude.{Option, None, Some, slice_get}
-use Rattle.afr_base.specs.declared.ids.Kind.{Kind}
 use Rattle.afr_lines.specs.declared.fault.Fault.{Fault}
 use Rattle.afr_lines.specs.declared.answer.Told.TheVariants.{Seen}
 use Rattle.afr_lines.specs.declared.line.Line.{Line}
@@ -9,8 +8,6 @@ use Rattle.afr_lines.specs.declared.line.Line.TheVariants.{Ask}
 use Rattle.afr_lines.specs.declared.request.Request.TheVariants.{Look}
 use Rattle.afr_model_moves.specs.Past.{Beginning, Log, before}
 use Rattle.afr_law.specs.Dirty.{ShowsDirty, DirtyShown, TracksDirty, DirtyTracked}
-use Rattle.afr_model_moves.specs.Honest.{Honest}
-use Rattle.afr_model_moves.specs.Rules.{Lawful}
 use Rattle.afr_law.proofs.Alike.Raises.{none_below}
 use Rattle.afr_law.specs.Alike.{Alike}
 use Rattle.afr_law.specs.Law.{HonestLog, LawfulLog, DirtyShownLog, AlikeLog}

@@ -21,7 +21,7 @@ use Rattle.afr_model.specs.Sessions.{is_joined}
 use Rattle.afr_model_moves.proofs.ByPosition.{newest_at, past_whole}
 use Rattle.afr_model_moves.proofs.Places.{of_same, place_is}
 use Rattle.afr_model_moves.specs.Discipline.{exact, present}
-use Rattle.afr_model_moves.specs.Past.{Log, joined, place}
+use Rattle.afr_model_moves.specs.Past.{Log, place}
 use Rattle.afr_model_moves.specs.Past as past
 use Rattle.afr_model_moves.specs.Positions.{by_position}
 use Rattle.afr_model_moves.specs.Register.{Exact}

@@ -17,7 +17,7 @@ use Rattle.afr_model.specs.Answered.{IsAbout, IsAnswered}
 use Rattle.afr_model.specs.Keeping.{KeepsTo}
 use Rattle.afr_model.specs.Refusals.{too_large}
 use Rattle.afr_client_walk.specs.Choosing.{IsAmong}
-use Rattle.afr_client_walk.specs.Walk.{IsStep, choices_of, is_walking, next_in, walked}
+use Rattle.afr_client_walk.specs.Walk.{choices_of, is_walking, next_in, walked}
 use Rattle.afr_client_walk.specs.Walk as walk
 use Rattle.afr_client_walk.specs.declared.walk.Walk.{Walk}
 use Rattle.afr_client_walk.specs.declared.walk.WalkStep.{WalkStep}

@@ -35,7 +35,7 @@ use Rattle.afr_object.specs.Indexed.{index_of}
 use Rattle.afr_object.specs.declared.change.Change.TheVariants.{Make}
 use Rattle.afr_object.specs.Tables.{Table}
 use Rattle.afr_plan.specs.declared.plan.Plan.{Plan}
-use Rattle.afr_law_quiet.proofs.Lists.Rises.{Rises, rising}
+use Rattle.afr_model.proofs.Rises.{Rises, rising}
 use Rattle.afr_law_cost.specs.Round.Left.{Lists}
 use Rattle.afr_law_tables.specs.Codes.{kind_code, kind_in}
 use Rattle.afr_law_bound.proofs.Circle.{In}

@@ -8,7 +8,7 @@ use Rattle.afr_object.specs.TablesLemmas.{same_gfid}
 use Rattle.afr_object.specs.Indexed.{index_of}
 use Rattle.afr_object.specs.Tables.{Table, copy_at}
 use Rattle.afr_object.specs.Object.{Object}
-use Rattle.afr_law_quiet.proofs.Lists.Rises.{AreAbove, Rises}
+use Rattle.afr_model.proofs.Rises.{AreAbove, Rises}
 use Rattle.afr_law_bound.proofs.Circle.{In}
 
 apart : (x y : ℕ) → (y == x) ≡ false → x ≡ y → ⊥

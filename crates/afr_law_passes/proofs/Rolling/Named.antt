@@ -8,7 +8,6 @@ use Rattle.afr_base.specs.declared.ids.ActorId.{ActorId}
 use Rattle.afr_base.specs.declared.ids.BrickId.{BrickId}
 use Rattle.afr_base.specs.declared.ids.Gfid.{Gfid}
 use Rattle.afr_base.specs.declared.ids.Kind.{Kind}
-use Rattle.afr_lines.specs.Log.{EachLine}
 use Rattle.afr_lines.specs.Work.{Work, is_end, is_of, work}
 use Rattle.afr_lines.specs.declared.answer.Told.{Told}
 use Rattle.afr_lines.specs.declared.answer.Told.TheVariants.{NoObject}
@@ -17,7 +16,7 @@ use Rattle.afr_lines.specs.declared.line.Line.TheVariants.{Ask}
 use Rattle.afr_lines.specs.declared.request.Request.{Request}
 use Rattle.afr_lines.specs.declared.request.Request.TheVariants.{Look, Post}
 use Rattle.afr_plan.specs.declared.plan.Plan.{Plan}
-use Rattle.afr_model.specs.Blamed.{AreBlamed, Blames, IsBlaming, misses, missing}
+use Rattle.afr_model.specs.Blamed.{Blames, IsBlaming, misses, missing}
 use Rattle.afr_model.specs.Honest.{Honest, IsHonest}
 use Rattle.afr_model.specs.Safe.{log_before}
 use Rattle.afr_model.specs.Showing.{among, has, is_fault}

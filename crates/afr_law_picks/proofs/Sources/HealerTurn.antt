@@ -1,15 +1,11 @@
 -- A healer's turn keeps the sources of all healers as the rule picked them.
-use Rattle.std.proofs.Common.{◌≡◌, ◌∙◌, ℕ, ◌+◌, ◌-◌, ◌≤◌, ◌==◌, true, false, List, ◌∷◌, Option, None, Some, refl, sym, ap, subst, arith, length, option_map, slice_get, slice_set}
+use Rattle.std.proofs.Common.{◌≡◌, ◌∙◌, ℕ, ◌+◌, ◌-◌, ◌≤◌, ◌==◌, true, false, List, ◌∷◌, Some, refl, sym, ap, subst, arith, length, option_map, slice_get, slice_set}
 use Rattle.std.proofs.lemmas.Option.{slice_get-map}
 use Rattle.afr_base.specs.declared.ids.ActorId.{ActorId}
-use Rattle.afr_base.specs.declared.ids.Gfid.{Gfid}
-use Rattle.afr_base.specs.declared.ids.Kind.{Kind}
-use Rattle.afr_base.specs.declared.ids.Kind.TheVariants.{Attrs, Bytes, Names}
-use Rattle.afr_base.specs.declared.ids.Shape.{Shape}
 use Rattle.afr_heal_round.specs.Rounding.{IsFed}
-use Rattle.afr_lines.specs.Work.{Work, is_of}
+use Rattle.afr_lines.specs.Work.{is_of}
 use Rattle.afr_lines.specs.declared.line.Line.{Line}
-use Rattle.afr_model.specs.Chosen.{HasSource, Picks}
+use Rattle.afr_model.specs.Chosen.{Picks}
 use Rattle.afr_plan.specs.declared.plan.Plan.{Plan}
 use Rattle.afr_healer.specs.Acting.{Stepped}
 use Rattle.afr_healer.specs.Keeping.{IsHealer}
@@ -18,7 +14,7 @@ use Rattle.afr_healer.specs.declared.healer.Healer.{Healer}
 use Rattle.afr_rule.specs.Choosing.{Calls}
 use Rattle.afr_server.specs.Serving.{Serving}
 use Rattle.afr_law_picks.proofs.Sources.Turns.{healer_keeps, set_source}
-use Rattle.afr_law_picks.specs.Sources.Chosen.{AreChosen, HealsFrom, RunsFrom}
+use Rattle.afr_law_picks.specs.Sources.Chosen.{AreChosen, RunsFrom}
 use Rattle.afr_law_picks.specs.Sources.Laws.{LineKeepsSource, SourceKept}
 use Rattle.afr_law_picks.specs.Sources.Sources.{picked_source, picks_of, sources_of}
 

@@ -17,7 +17,7 @@ use Rattle.afr_object.specs.Object.{Object}
 use Rattle.afr_object.specs.TablesLemmas.{same_gfid}
 use Rattle.afr_model_moves.proofs.Tests.{three_parts}
 use Rattle.afr_law_quiet.specs.Undisturbed.{IsListed}
-use Rattle.afr_law_quiet.proofs.Lists.Rises.{AreAbove, Rises, above_none}
+use Rattle.afr_model.proofs.Rises.{AreAbove, Rises, above_none}
 
 -- ---- the list by the table
 -- a copy with a number above 0

@@ -39,7 +39,7 @@ use Rattle.afr_law_quiet.proofs.Lists.Index.{listed_marked, marked_listed}
 use Rattle.afr_law_quiet.proofs.Lists.Opened.{marked_open, open_marked}
 use Rattle.afr_law_quiet.proofs.Lists.Parts.{Heal, append_assoc, heal_of}
 use Rattle.afr_law_quiet.proofs.Lists.Premises.{Sound, sound_before, sound_fits}
-use Rattle.afr_law_quiet.proofs.Lists.Rises.{rising}
+use Rattle.afr_model.proofs.Rises.{rising}
 use Rattle.afr_law_quiet.proofs.Lists.Runs.{AreMine, Run, before_works, ended_same, run, works, works_are}
 use Rattle.afr_law_quiet.proofs.Lists.Steps.{AsksBelow, Goes, IsFree, Step, all_ended, due_here, listed_is}
 use Rattle.afr_law_quiet.proofs.Lists.Tails.{most_more, stays_more}

@@ -1,12 +1,12 @@
 -- Lines that are made of steps, one after the other, and what one step makes.
-use Rattle.std.proofs.Common.{◌≡◌, ℕ, zero, suc, ◌+◌, ◌-◌, ◌<◌, Bool, true, false, Option, Some, None, List, [], ◌∷◌, ◌++◌, length, get_or, take, drop, map, reverse, refl, sym, ◌∙◌, add-one, ap, subst, arith}
+use Rattle.std.proofs.Common.{◌≡◌, ℕ, zero, suc, ◌+◌, ◌-◌, ◌<◌, true, false, Option, Some, None, List, [], ◌∷◌, ◌++◌, length, take, drop, map, reverse, refl, sym, ◌∙◌, add-one, ap, subst, arith}
 use Rattle.std.specs.Prelude.{IsSome, is_some, slice_get}
 use Rattle.std.proofs.lemmas.List.{drop_at, length-append, length-map, length-reverse, map-append, reverse-append, take_all}
 use Rattle.afr_base.specs.declared.ids.ActorId.{ActorId}
 use Rattle.afr_image.specs.declared.step.Step.{Step}
 use Rattle.afr_image.specs.Steps.{step_of}
 use Rattle.afr_lines.specs.Log.{before}
-use Rattle.afr_lines.specs.Work.{is_event, is_of}
+use Rattle.afr_lines.specs.Work.{is_of}
 use Rattle.afr_lines.specs.declared.line.Event.{Event as AnEvent}
 use Rattle.afr_lines.specs.declared.line.Line.{Line}
 use Rattle.afr_lines.specs.declared.line.Line.TheVariants.{Event}
@@ -16,10 +16,10 @@ use Rattle.afr_plan.specs.declared.plan.Plan.{Plan}
 use Rattle.afr_volume.specs.State.{State}
 use Rattle.afr_volume.proofs.TaskDone.{done_by_plan, plain_done}
 use Rattle.afr_volume.specs.Tasks.{is_done_in}
-use Rattle.afr_volume.specs.Turning.{AddsLine, Comes, Turns, due_at, due_of}
+use Rattle.afr_volume.specs.Turning.{Comes, Turns, due_of}
 use Rattle.afr_volume.specs.declared.turned.Turned.{Turned}
 use Rattle.afr_volume.specs.declared.turned.Turned.TheVariants.{Ended, Full, Moved, Waits}
-use Rattle.afr_order.specs.Replays.Made.{DiffersAt, Fails, HasSteps, IsBy, IsEventStep, IsMade, Made, MakesStep, NoActor, NoWork, NoneIsDue, OneIsDue, Otherwise, Retraces, Start, Then, is_ended}
+use Rattle.afr_order.specs.Replays.Made.{DiffersAt, Fails, HasSteps, IsBy, IsEventStep, Made, MakesStep, NoWork, NoneIsDue, OneIsDue, Otherwise, Retraces, Start, Then, is_ended}
 
 -- ---- what was made has the steps
 pub made_steps : (p : Plan) (steps : List Step) (log : List Line) → Made p steps log → map step_of (reverse log) ≡ steps

@@ -15,7 +15,7 @@ use Rattle.afr_model.specs.Skipped.{IsLooked, SkipsNothing, WentThroughPhases}
 use Rattle.afr_model.specs.Standing.{asking, change_by}
 use Rattle.afr_model.specs.Kept.{IsKept}
 use Rattle.afr_model.specs.Parts.{first_part, the_make, the_removal, the_walk}
-use Rattle.afr_model.specs.Renamed.{AreLegs, HasFound, IsHalved, IsLookedFor, IsMade, IsOfRename, IsRenamed, StillLeads, since_name}
+use Rattle.afr_model.specs.Renamed.{AreLegs, HasFound, IsOfRename, IsRenamed, StillLeads, since_name}
 use Rattle.afr_model.specs.Renamed as rename
 use Rattle.afr_test_model.proofs.Renamed.Lines.{at_each, begin, file, file_entry, from, halved, link, linked, lock, look, made_at_one, new_area, old_area, other_file, plan, ready_again, ready_elsewhere, removal, renamed, to, walked}
 use Rattle.afr_test_model.proofs.Means.{from_none, from_some}

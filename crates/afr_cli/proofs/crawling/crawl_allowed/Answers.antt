@@ -2,7 +2,7 @@
 use Rattle.std.proofs.Common.{◌≡◌, ◌∙◌, ◌<◌, ◌^◌, [], inr, length, rules, sym, subst, true}
 use Rattle.afr_plan.specs.declared.plan.Plan.{Plan}
 use Rattle.afr_plan_print.specs.PrintedPlan.{plan_text}
-use Rattle.afr_workers.specs.Crew.{IsCrawled, IsTriedIn}
+use Rattle.afr_workers.specs.Crew.{IsCrawled}
 use Rattle.afr_cli.proofs.EndLemmas.{unless_err}
 use Rattle.afr_cli.proofs.RunLemmas.{ran_crawl, stops_crawl}
 use Rattle.afr_cli.proofs.crawling.crawl_allowed.Goals as goal

@@ -1,5 +1,4 @@
 -- A plan that can be crawled, and one that can't.
-use Rattle.std.proofs.Common.{inl, inr}
 use Rattle.afr_cli.proofs.RecordLemmas.{ended_has}
 use Rattle.afr_cli.proofs.RunLemmas.{few_more, never_eight, stops_refusal}
 use Rattle.afr_cli.proofs.StatusLemmas.{other_status}

@@ -1,5 +1,5 @@
 -- What was written of a run, the text that was cut off, and what a source that tells its bytes is answered with.
-use Rattle.std.proofs.Common.{◌≡◌, ◌∙◌, Bool, false, ap, sym, inl, subst}
+use Rattle.std.proofs.Common.{◌≡◌, ◌∙◌, false, ap, sym, inl}
 use Rattle.afr_cli.proofs.EndLemmas.{nothing_eager}
 use Rattle.afr_cli.proofs.LiveLemmas.{can_as_asked, crawls_as_asked, leaves_live, live_planned, live_stops_at_usage, refuses_live, reports_live, runs_live}
 use Rattle.afr_cli.proofs.RecordLemmas.{ended_has, is_recorded}

@@ -1,5 +1,5 @@
 -- A crawl, and a run by threads.
-use Rattle.std.proofs.Common.{◌∙◌, inl, inr, sym, true≢false}
+use Rattle.std.proofs.Common.{◌∙◌, inl, sym, true≢false}
 use Rattle.afr_cli.proofs.ActorLemmas.{all_plain}
 use Rattle.afr_cli.proofs.RecordLemmas.{ended_has}
 use Rattle.afr_cli.proofs.RunLemmas.{eager_crawl, few_more, left_crawl, left_live, no_plain, none_crawl, none_live, ran_live, stops_live}

@@ -1,5 +1,4 @@
 use Rattle.std.proofs.Common.{◌≤◌, arith}
-use Rattle.std.proofs.lemmas.Bool.Decides.{nat_tests}
 use Rattle.afr_volume.proofs.GoingLemmas.{goes_nowhere}
 use Rattle.afr_volume.specs.Going.{AtFirst}
 use Rattle.afr_order.proofs.rows.client_order.Goals as goal

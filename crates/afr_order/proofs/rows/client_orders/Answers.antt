@@ -1,5 +1,4 @@
-use Rattle.std.proofs.Common.{◌≡◌, Some}
-use Rattle.std.specs.Prelude.{slice_get}
+use Rattle.std.proofs.Common.{◌≡◌}
 use Rattle.afr_volume.proofs.GoingLemmas.{goes_nowhere, goes_then}
 use Rattle.afr_volume.specs.Going.{AtFirst}
 use Rattle.afr_order.proofs.ClientLemmas.{runs_then}

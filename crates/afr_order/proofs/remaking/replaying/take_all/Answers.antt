@@ -1,5 +1,5 @@
 -- A step more makes a line more, and lines come behind those that the steps made.
-use Rattle.std.proofs.Common.{◌≡◌, ◌+◌, ◌<◌, ℕ, true, false, Ok, length, ap, refl, subst, sym, arith, ◌∙◌}
+use Rattle.std.proofs.Common.{◌≡◌, ◌+◌, ◌<◌, ℕ, true, false, Ok, length, ap, refl, subst, arith, ◌∙◌}
 use Rattle.std.proofs.lemmas.Grind.{common_steps}
 use Rattle.afr_plan.specs.declared.plan.Plan.{Plan}
 use Rattle.afr_order.proofs.Replays.MadeLemmas.{differs, longer, made_all, made_more, made_none}

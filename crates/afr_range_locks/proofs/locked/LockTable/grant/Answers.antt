@@ -1,7 +1,6 @@
 -- A lock that none is in the way of comes last, or there is no memory for it.
-use Rattle.std.proofs.Common.{◌∙◌, subst}
+use Rattle.std.proofs.Common.{◌∙◌}
 use Rattle.std.specs.Result.{is_ok}
-use Rattle.afr_lines.specs.Locks.{first_conflict}
 use Rattle.afr_range_locks.proofs.LateLemmas.{apart_after}
 use Rattle.afr_range_locks.proofs.locked.LockTable.grant.Goals as goal
 

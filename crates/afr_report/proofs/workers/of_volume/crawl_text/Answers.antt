@@ -1,6 +1,5 @@
 -- The plan, the log and the bricks are those of the volume.
 use Rattle.std.proofs.Common.{◌≡◌, ◌∙◌, ◌<◌, ◌^◌, IfOk, List, ap, arith, length, reverse, string_bytes, subst, sym, true}
-use Rattle.std.proofs.lemmas.List.{length-reverse}
 use Rattle.afr_lines.specs.Work.{ended}
 use Rattle.afr_lines.specs.declared.line.Line.{Line}
 use Rattle.afr_plan.specs.declared.plan.Plan.{Plan}

@@ -1,5 +1,5 @@
 -- What was kept of a round that has ended is what it was given.
-use Rattle.std.proofs.Common.{◌≡◌, ◌∙◌, ◌<◌, Some, ap, arith, reverse, slice_get, sym, true}
+use Rattle.std.proofs.Common.{◌≡◌, ◌∙◌, ◌<◌, Some, ap, arith, reverse, sym, true}
 use Rattle.std.proofs.lemmas.Option.{slice_get-get_or}
 use Rattle.afr_lines.specs.Work.{ended}
 use Rattle.afr_volume.proofs.HealerLemmas.{found_at}
