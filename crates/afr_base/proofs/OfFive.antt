@@ -4,6 +4,7 @@ use Rattle.std.specs.List.{list_all, list_any}
 use Rattle.std.proofs.lemmas.Bool.{eqb-true}
 use Rattle.std.proofs.lemmas.List.Folds.{list_any_at}
 use Rattle.std.proofs.lemmas.Bool.Decides.{nat_tests}
+use Rattle.std.proofs.Math.Bool.{and-true}
 use Rattle.afr_base.specs.Bricks.{IsWithin, added_if, all_five, and_left, and_right, from_table, is_nothing, lowest, member, same, same_is}
 use Rattle.afr_base.specs.Five.{first_in, picked}
 use Rattle.afr_base.specs.declared.ids.BrickId.{BrickId}
@@ -41,11 +42,7 @@ some_passes p b l h = list_any_at p all_five b 0 l (subst (λ (k : ℕ). p k ≡
 
 -- ---- as a test
 pub member_chosen : (p : ℕ → Bool) (b : ℕ) → b < 5 → member (filter p all_five) b ≡ p b
-member_chosen p b l = has_passing p all_five b ∙ ap (λ (m : Bool). p b && m) (from_table 5 (member all_five) refl b l) ∙ whole (p b)
-  where
-    whole : (x : Bool) → (x && true) ≡ x
-    whole true = refl
-    whole false = refl
+member_chosen p b l = has_passing p all_five b ∙ ap (λ (m : Bool). p b && m) (from_table 5 (member all_five) refl b l) ∙ and-true (p b)
 
 pub chosen_passes : (p : ℕ → Bool) (b : ℕ) → member (filter p all_five) b ≡ true → p b ≡ true
 chosen_passes p b m = and_left (p b) (member all_five b) (sym (has_passing p all_five b) ∙ m)

@@ -4,6 +4,7 @@ use Rattle.std.proofs.lemmas.Bool.{eqb-true}
 use Rattle.std.proofs.lemmas.Bool.Decides.{nat_tests}
 use Rattle.afr_base.specs.Bricks.{added, all_five, below, from_table, is_nothing, lowest, member, removed}
 use Rattle.afr_base.specs.Rising.{IsRising}
+use Rattle.afr_base.proofs.TestLemmas.{same_number}
 
 pub rising_from_lower : (j k : ℕ) (s : List ℕ) → k ≤ j → IsRising j s → IsRising k s
 rising_from_lower j k [] l h = tt
@@ -78,11 +79,8 @@ not_lower k (x ∷ xs) b h l = rest (x == b) refl (not_lower (suc x) xs b h.1 (o
     rest true e ih = absurd (omega (arith, eqb-true x b e, h.0, l))
     rest false e ih = ih
 
-has_first : (x : ℕ) (xs : List ℕ) → member (x ∷ xs) x ≡ true
-has_first x xs = rw (yes x) refl
-  where
-    yes : (x : ℕ) → (x == x) ≡ true
-    yes x = grind (arith, nat_tests)
+pub has_first : (x : ℕ) (xs : List ℕ) → member (x ∷ xs) x ≡ true
+has_first x xs = rw (same_number x) refl
 
 sides : (x y : ℕ) → (x < y) ⊎ ((y < x) ⊎ (x ≡ y))
 sides x y = grind arith

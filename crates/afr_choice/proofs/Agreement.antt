@@ -2,6 +2,7 @@
 use Rattle.std.proofs.Common.{◌≡◌, ℕ, zero, suc, ◌<◌, ◌≤◌, ◌&&◌, ◌==◌, not, nat_lt, Bool, true, false, List, refl, sym, ◌∙◌, ap, arith, Option, None, Some, is_some}
 use Rattle.std.specs.List.{list_any}
 use Rattle.std.proofs.lemmas.Bool.Decides.{nat_tests}
+use Rattle.std.proofs.lemmas.Bool.{not-true, not-false}
 use Rattle.afr_base.specs.Bricks.{all_five, member}
 use Rattle.afr_base.specs.Keeping.{keeps}
 use Rattle.afr_base.specs.declared.ids.Kind.{Kind}
@@ -38,14 +39,6 @@ one_fails (suc n) p h = go (p n) refl h (one_fails n p)
 
 pub none_of_five : (p : ℕ → Bool) → ((x : ℕ) → x < 5 → p x ≡ false) → list_any p all_five ≡ false
 none_of_five p h = rw (h 0 (omega arith), h 1 (omega arith), h 2 (omega arith), h 3 (omega arith), h 4 (omega arith)) refl
-
-no_to_false : (x : Bool) → not x ≡ true → x ≡ false
-no_to_false true h = absurd (cc h)
-no_to_false false h = refl
-
-pub no_to_true : (x : Bool) → not x ≡ false → x ≡ true
-no_to_true true h = refl
-no_to_true false h = absurd (cc h)
 
 no_no : (x : Bool) → not (not x) ≡ x
 no_no true = refl
@@ -95,13 +88,13 @@ module _ (n : ℕ) (looked : Looked) (few : n ≤ 5) (answered : IsAnswered n lo
     where
       nobody : unaccused n kind (views_of looked) s ≡ true → (x : ℕ) → x < 5 → (m : Bool) → member looked.reached x ≡ m → accuses_at kind x s looked ≡ false
       nobody e x l false g = rw g refl
-      nobody e x l true g = accuses_at_same kind x s ∙ no_to_false (accuses kind (views_of looked x) s) (all_yes n (λ y. not (accuses kind (views_of looked y) s)) e x (answered.low x g))
+      nobody e x l true g = accuses_at_same kind x s ∙ not-true (accuses kind (views_of looked x) s) (all_yes n (λ y. not (accuses kind (views_of looked y) s)) e x (answered.low x g))
 
       go : (f : Bool) → unaccused n kind (views_of looked) s ≡ f → is_accused kind looked s ≡ not f
       go true e = none_of_five (λ x. accuses_at kind x s looked) (λ x l. nobody e x l (member looked.reached x) refl)
       go false e =
           let one = one_fails n (λ y. not (accuses kind (views_of looked y) s)) e in
-          some_passes (λ x. accuses_at kind x s looked) one.0 (omega (arith, one.1, few)) (accuses_at_same kind one.0 s ∙ no_to_true (accuses kind (views_of looked one.0) s) one.2)
+          some_passes (λ x. accuses_at kind x s looked) one.0 (omega (arith, one.1, few)) (accuses_at_same kind one.0 s ∙ not-false (accuses kind (views_of looked one.0) s) one.2)
 
   pub holders_tell : (b : ℕ) → b < 5 → member (holders_of looked) b ≡ holder (views_of looked) b
   holders_tell b l = member_holders looked b l ∙ holder_same b

@@ -19,7 +19,7 @@ pub and_no : (x y : Bool) → y ≡ false → (x && y) ≡ false
 and_no true y h = h
 and_no false y h = refl
 
-and_yes : (x : Bool) → x ≡ (x && true)
+pub and_yes : (x : Bool) → x ≡ (x && true)
 and_yes true = refl
 and_yes false = refl
 

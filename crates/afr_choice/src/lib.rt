@@ -7,4 +7,4 @@ mod verdict;
 
 pub use by_views::{good_shown, holds, is_good, is_unaccused, keeps, shown};
 pub use looked::{Looked, marks_shown};
-pub use verdict::{Verdict, accusers, copies, good, has_copy, holders, judge, majority};
+pub use verdict::{Verdict, accusers, copies, good, has_copy, holders, judge};

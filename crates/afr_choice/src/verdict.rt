@@ -1,5 +1,5 @@
 //! Who accuses whom, which copies are good, and what that makes of a look.
-ghost use Rattle.std.specs.Prelude.{◌≡◌, ℕ, ◌+◌, ◌-◌, ◌*◌, ◌/◌, ◌<◌, ◌≤◌, true, false};
+ghost use Rattle.std.specs.Prelude.{◌≡◌, ℕ, ◌<◌, ◌≤◌, true, false};
 ghost use Rattle.afr_choice.specs.Verdict.{is_holder, is_copy, shown_missed, accuses_at, accusers_of, is_accused, is_good, holders_of, copies_of, good_copies, verdict_of};
 
 use crate::looked::{Looked, marks_shown};
@@ -17,15 +17,6 @@ pub enum Verdict {
     Split,
     /// The good copies.
     Sources(BrickSet),
-}
-
-/// The least number of bricks that is more than half of `n`.
-pub fn majority(n: u8) -> u8
-    ensures value { result ≡ n / 2 + 1 }
-    ensures most { n < 2 * result }
-    ensures least { 2 * (result - 1) ≤ n }
-{
-    n / 2 + 1
 }
 
 /// The bricks that were reached and have the object.

@@ -1,6 +1,6 @@
 -- The bytes of a volume's image, and that they are read again.
-use Rattle.std.proofs.Common.{◌≡◌, ◌≤◌, ◌⊎◌, ◌||◌, ◌∙◌, ℕ, Bool, false, List, Option, Some, None, drop, length, map, nat_lt, reverse, ap, inl, inr, refl, arith}
-use Rattle.std.proofs.lemmas.Bool.{le-ltb}
+use Rattle.std.proofs.Common.{◌≡◌, ◌≤◌, ◌⊎◌, ◌||◌, ◌∙◌, ℕ, false, List, Option, Some, None, drop, length, map, nat_lt, reverse, ap, inl, inr, refl, arith}
+use Rattle.std.proofs.lemmas.Bool.{le-ltb, or_from}
 use Rattle.std.proofs.lemmas.List.{length-drop, length-map, length-reverse, length-take-le}
 use Rattle.afr_image.specs.Frame.{bytes_with, text_in, text_len}
 use Rattle.afr_image.specs.Images.{IsImage}
@@ -24,15 +24,13 @@ unfolding image_text
 image_is p log q steps plan made = ap (λ (r : Plan). bytes_with (plan_text r) steps) plan ∙ ap (bytes_with (plan_text p)) made
 
 -- ---- read again
-neither : (x y : Bool) → x ≡ false → y ≡ false → (x || y) ≡ false
-neither x y e f = rw (e, f) refl
 
 -- an image is one of each replay that has turns for its steps
 for_turns : (i : Image) (turns : ℕ) → IsImage None i → length i.steps ≤ turns → IsImage (Some turns) i
 for_turns i turns h enough = record {
   plan = h.plan;
   numbers = h.numbers;
-  few = neither (nat_lt i.plan.turns (length i.steps)) (nat_lt turns (length i.steps)) h.few (le-ltb turns (length i.steps) enough);
+  few = or_from (nat_lt i.plan.turns (length i.steps)) (nat_lt turns (length i.steps)) h.few (le-ltb turns (length i.steps) enough);
   steps = h.steps;
 }
 

@@ -1,7 +1,7 @@
 -- A work has somebody left to ask, the discipline allows what it asks, and its register notes it.
 use Rattle.std.proofs.Common.{◌≡◌, ℕ, ◌<◌, ◌≤◌, ◌==◌, nat_lt, not, Bool, true, false, List, length, refl, ap, subst, arith, inl, inr, if◌then◌else◌}
-use Rattle.std.proofs.lemmas.Bool.Decides.{nat_tests}
 use Rattle.std.specs.Borrow.{Bor}
+use Rattle.std.proofs.lemmas.Bool.{ltb-true}
 use Rattle.afr_base.specs.declared.ids.BrickId.{BrickId}
 use Rattle.afr_base.specs.declared.ids.NameId.{NameId}
 use Rattle.afr_base.specs.declared.ids.Shape.{Shape}
@@ -268,12 +268,9 @@ stays_outside (Rename m) k = rename_outside m.stage m.paths k
 below_five : (b n : ℕ) → b < n → n ≤ 5 → b < 5
 below_five b n l few = omega (arith, l, few)
 
-tested_below : (b n : ℕ) → nat_lt b n ≡ true → b < n
-tested_below b n h = grind (arith, nat_tests, h)
-
 -- what the discipline lets ask outside a heal is asked of a brick of the volume
 allows_low : (r : Register) → r.inside ≡ false → r.shape.n ≤ 5 → (b : BrickId) (request : Request) → Allows r (next.Ask b request) → b.0 < 5
-allows_low r outside few b request allows = below_five b.0 r.shape.n (tested_below b.0 r.shape.n low.0) few
+allows_low r outside few b request allows = below_five b.0 r.shape.n (ltb-true b.0 r.shape.n low.0) few
   where
     of : Bor Request
     of = record { ref_ptr = (0, 0); now = request }

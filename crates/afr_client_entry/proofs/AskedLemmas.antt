@@ -57,7 +57,7 @@ suits g (job.Mkdir name) = record { valid = refl; kind = refl }
 suits g (job.Unlink name) = record { valid = refl; kind = refl }
 suits g (job.Rmdir name) = record { valid = refl; kind = refl }
 
-of_names : (g : Gfid) (j : EntryJob) → kind_for (change_of g j) ≡ Names
+pub of_names : (g : Gfid) (j : EntryJob) → kind_for (change_of g j) ≡ Names
 of_names g (job.Create name) = refl
 of_names g (job.Mkdir name) = refl
 of_names g (job.Unlink name) = refl

@@ -179,10 +179,6 @@ making_over over done e f = rw (e, f) refl
 pub making_more : (over done : Bool) → over ≡ false → (over && not done) ≡ false
 making_more over done e = rw e refl
 
-pub turn_more : (over done : Bool) → done ≡ true → (over && not done) ≡ false
-turn_more true done e = rw e refl
-turn_more false done e = refl
-
 -- and the second one's, until it is over
 pub removing_is : (x : Paths) (t : TransactionProgress) (found : Found) (at : ℕ) → progress.is_over t.stage t ≡ false → removing_next found at x t ≡ next_under found at (reads_old x) t
 removing_is x t found at e = go (progress.is_over t.stage t) e

@@ -4,7 +4,6 @@ ghost use Rattle.afr_client_entry.specs.Entry.{IsEntry, IsToRemove, after_walk, 
 ghost use Rattle.afr_client_entry.specs.Job.{change_of, ruled_out};
 ghost use Rattle.afr_lines.specs.Areas.{kind_for};
 ghost use Rattle.afr_lines.specs.declared.line.Next.{Next};
-ghost use Rattle.afr_object.specs.Tables.{is_dir};
 ghost use Rattle.afr_client_entry.specs.Removals.Removal as removing_of;
 ghost use Rattle.afr_client_entry.specs.Removals.Removal.{removing};
 ghost use Rattle.afr_client_transaction.specs.Progress as progress;
@@ -259,7 +258,13 @@ fn change_heard<G: Fn(&[Candidate]) -> usize>(
 }
 
 /// The transaction hears what it asked.
-fn hears(transaction: &mut Transaction, brick: BrickId, request: &Request, told: &Told, at: u32)
+pub(crate) fn hears(
+    transaction: &mut Transaction,
+    brick: BrickId,
+    request: &Request,
+    told: &Told,
+    at: u32,
+)
     requires { progress.next_at transaction.old.stage at transaction.old ≡ Next.Ask brick request.now }
     ensures asked { is_beginning transaction.old.stage ≡ false }
     ensures value { transaction.new ≡ progress.fed transaction.old.stage told.now at transaction.old }
@@ -298,7 +303,7 @@ fn unread_heard<G: Fn(&[Candidate]) -> usize>(
 }
 
 /// Once the looks under the locks are over the rule picks the copy of the directory that is asked for the name.
-fn picked_under<G: Fn(&[Candidate]) -> usize>(
+pub(crate) fn picked_under<G: Fn(&[Candidate]) -> usize>(
     transaction: &Transaction,
     rule: &ReadRule<G>,
 ) -> Option<BrickId>
@@ -315,7 +320,7 @@ fn picked_under<G: Fn(&[Candidate]) -> usize>(
 }
 
 /// A change that is ruled out is given up.
-fn settle(transaction: &mut Transaction, why: Option<Refusal>) -> Found
+pub(crate) fn settle(transaction: &mut Transaction, why: Option<Refusal>) -> Found
     requires { is_beginning transaction.old.stage ≡ true }
     ensures transaction { transaction.new ≡ settled why transaction.old }
     ensures found { result ≡ found_by why }

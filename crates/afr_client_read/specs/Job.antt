@@ -1,8 +1,7 @@
 -- What a read asks, by which numbers, and what it answers.
 use Rattle.afr_base.specs.declared.ids.Gfid.{Gfid}
 use Rattle.afr_base.specs.declared.ids.Kind.{Kind}
-use Rattle.afr_base.specs.declared.ids.Kind.TheVariants.{Attrs, Names as NamesKind}
-use Rattle.afr_base.specs.declared.ids.Kind.TheVariants.{Bytes as BytesKind}
+use Rattle.afr_base.specs.declared.ids.Kind.TheVariants.{Attrs, Names as NamesKind, Bytes as BytesKind}
 use Rattle.afr_base.specs.declared.ids.What.{What}
 use Rattle.afr_base.specs.declared.ids.What.TheVariants.{File, Dir}
 use Rattle.afr_lines.specs.declared.answer.Answer.{Answer}

@@ -1,6 +1,7 @@
 -- The next line of a transaction is one that the discipline allows.
 use Rattle.std.proofs.Common.{◌≡◌, ℕ, zero, suc, ◌<◌, ◌≤◌, ◌&&◌, ◌||◌, not, ◌==◌, nat_le, nat_lt, Bool, true, false, List, [], ◌∷◌, refl, sym, ◌∙◌, ap, subst, arith, Option, None, Some, if◌then◌else◌}
 use Rattle.std.proofs.lemmas.Bool.Decides.{nat_tests}
+use Rattle.std.proofs.lemmas.Bool.{or_right}
 use Rattle.afr_base.specs.Bricks.{below, lowest, member, minus, is_nothing}
 use Rattle.afr_base.specs.Majority.{is_most, is_majority}
 use Rattle.afr_base.specs.SetLemmas.{lowest_in, lowest_left, within_below, member_minus, below_all}
@@ -19,6 +20,7 @@ use Rattle.afr_lines.specs.Areas.{area_for, kind_for}
 use Rattle.afr_lines.specs.declared.request.Area.{Area}
 use Rattle.afr_lines.specs.declared.request.Area.TheVariants.{Range, Name}
 use Rattle.afr_base.specs.Kinds.{same_kind}
+use Rattle.afr_base.proofs.TestLemmas.{unless_then, and_swapped}
 use Rattle.afr_model_moves.specs.Sets.{any}
 use Rattle.afr_model_moves.specs.Rules.{area_object, busy}
 use Rattle.afr_lines.specs.declared.line.Next.TheVariants as next
@@ -32,15 +34,15 @@ use Rattle.afr_model_moves.specs.Keeps.{keeps_in}
 use Rattle.afr_model_moves.proofs.AreaLemmas.{own_area}
 use Rattle.afr_model_moves.proofs.Tests.{same_self, same_kind_self}
 use Rattle.afr_discipline.specs.Stands.{number_of, seen_as, step_of, views_of}
-use Rattle.afr_discipline.specs.Tests.{suffices_by, fits_view, lies_in, last_posted, may_end, misses, once, one_of, plane_in, same_flag}
+use Rattle.afr_discipline.specs.Tests.{suffices_by, fits_view, lies_in, last_posted, may_end, misses, once, one_of, plane_in, same_flag, may_move_outside}
 use Rattle.afr_client_transaction.specs.declared.stage.Stage.{Stage}
 use Rattle.afr_client_transaction.specs.declared.stage.Stage.TheVariants.{Locking, Looking, Beginning, Preparing, Applying, Posting, Closing}
 use Rattle.afr_client_transaction.specs.Progress.{TransactionProgress, left, next_at, allowed, gfid_at, number_in, numbered, enough, may_start, asks}
 use Rattle.afr_client_transaction.specs.Outcome.{reply_for, reply_of}
 use Rattle.afr_client_transaction.specs.declared.reply.TransactionOutcome.TheVariants.{Acknowledged, NoQuorum, FewCopies, SplitBrain, Failed}
 use Rattle.afr_discipline.specs.Inside.{may_move, may_move_inside}
-use Rattle.afr_discipline.specs.Tests.{may_move_outside}
 use Rattle.afr_discipline.specs.declared.register.Move.{Move}
+use Rattle.afr_discipline.proofs.Decisions.{same_flag_no}
 use Rattle.afr_discipline.specs.declared.register.Move.TheVariants as move
 use Rattle.afr_lines.specs.declared.line.Next.{Next}
 use Rattle.afr_client_transaction.specs.Laws.{AllowedMoves, AllowedNext, IsMoveOf}
@@ -83,26 +85,14 @@ some_number q (Some x) e = (grind (arith, nat_tests), same_self (suc x))
 pub others_missed : (n : ℕ) (done : List ℕ) → n ≤ 5 → misses n (member done) (minus (below n) done) ≡ true
 others_missed n done few = pair _ _ (none_past (minus (below n) done) (λ b m. inside b m)) (each 5 (omega arith))
   where
-    outside : (a x : Bool) → (not a && x) ≡ true → x ≡ true
-    outside true x h = absurd (cc h)
-    outside false x h = h
-
     inside : (b : ℕ) → member (minus (below n) done) b ≡ true → b < 5
-    inside b m = let l : b < n = within_below n b (outside (member done b) (member (below n) b) (sym (member_minus (below n) done b) ∙ m)) in omega (arith, l, few)
+    inside b m = let l : b < n = within_below n b (unless_then (member done b) (member (below n) b) (sym (member_minus (below n) done b) ∙ m)) in omega (arith, l, few)
 
     none_past : (s : List ℕ) → ((b : ℕ) → member s b ≡ true → b < 5) → is_nothing (minus s (below 5)) ≡ true
     none_past [] h = refl
     none_past (x ∷ xs) h =
         let here : member (below 5) x ≡ true = below_all 5 x (omega arith) (h x (rw (same_self x) refl)) in
-        rw here (none_past xs (λ b m. h b (later (x == b) (member xs b) m)))
-      where
-        later : (a y : Bool) → y ≡ true → (a || y) ≡ true
-        later true y h = refl
-        later false y h = h
-
-    flag : (x y : Bool) → x ≡ y → same_flag x y ≡ true
-    flag true y e = sym e
-    flag false y e = deny y (sym e)
+        rw here (none_past xs (λ b m. h b (or_right (x == b) (member xs b) m)))
 
     in_below : (c : ℕ) → member (below n) c ≡ nat_lt c n
     in_below c = go (nat_lt c n) refl (member (below n) c) refl
@@ -113,15 +103,9 @@ others_missed n done few = pair _ _ (none_past (minus (below n) done) (λ b m. i
         go false e true f = let l : c < n = within_below n c f in absurd (grind (arith, nat_tests, e, l))
         go false e false f = refl
 
-    swap : (x y : Bool) → (x && y) ≡ (y && x)
-    swap true true = refl
-    swap true false = refl
-    swap false true = refl
-    swap false false = refl
-
     each : (k : ℕ) → k ≤ 5 → all k (λ c. same_flag (member (minus (below n) done) c) (nat_lt c n && not (member done c))) ≡ true
     each zero l = refl
-    each (suc k) l = pair _ _ (flag _ _ (member_minus (below n) done k ∙ rw (in_below k) (swap (not (member done k)) (nat_lt k n)))) (each k (omega (arith, l)))
+    each (suc k) l = pair _ _ (same_flag_no _ _ (member_minus (below n) done k ∙ rw (in_below k) (and_swapped (not (member done k)) (nat_lt k n)))) (each k (omega (arith, l)))
 
 -- ---- the number of a new object plays no part in the test of a Begin
 module _ (dir : Gfid) (name : NameId) (one other : Gfid) (what : What) where

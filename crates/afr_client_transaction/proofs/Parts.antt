@@ -1,7 +1,6 @@
 -- Small facts of tests, sets and looks.
-use Rattle.std.proofs.Common.{◌≡◌, ℕ, zero, suc, ◌*◌, ◌<◌, ◌≤◌, ◌||◌, nat_lt, Bool, true, false, List, [], ◌∷◌, refl, sym, ◌∙◌, ap, subst, arith, Option, None, Some, is_some}
+use Rattle.std.proofs.Common.{◌≡◌, ℕ, zero, suc, ◌*◌, ◌<◌, ◌≤◌, ◌||◌, nat_lt, Bool, true, false, List, [], ◌∷◌, refl, sym, ◌∙◌, ap, subst, arith, Option, None, Some, is_some, inl, inr}
 use Rattle.std.proofs.lemmas.Bool.Decides.{nat_tests, eqb_tells}
-use Rattle.std.proofs.Common.{inl, inr}
 use Rattle.afr_base.specs.Bricks.{added_if, member, removed, is_nothing, IsWithin}
 use Rattle.afr_base.specs.Majority.{is_most, count_below}
 use Rattle.afr_base.specs.SetLemmas.{member_added, member_removed, within_added_if, within_removed_if}
@@ -16,6 +15,7 @@ use Rattle.afr_choice.specs.declared.looked.Looked.{Looked}
 use Rattle.afr_lines.specs.declared.request.Area.{Area}
 use Rattle.afr_model_moves.specs.Sets.{any}
 use Rattle.afr_model_moves.specs.Register.{holder}
+use Rattle.afr_model_moves.proofs.Tests.{some_yes}
 use Rattle.afr_discipline.specs.Stands.{views_of}
 use Rattle.afr_client_transaction.specs.Sound.{Base, Shown}
 pub use Rattle.afr_model_moves.proofs.Tests.{both, denied, deny, lt_test, no_or, pair}
@@ -53,18 +53,9 @@ pub any_nothing : (n : ℕ) → any n (member []) ≡ false
 any_nothing zero = refl
 any_nothing (suc n) = any_nothing n
 
--- one brick below n that passes
-pub some_of : (n : ℕ) (p : ℕ → Bool) → any n p ≡ true → (s : ℕ) × (s < n) × (p s ≡ true)
-some_of zero p h = absurd (cc h)
-some_of (suc n) p h = go (p n) refl h (λ k. some_of n p k)
-  where
-    go : (x : Bool) → p n ≡ x → (x || any n p) ≡ true → (any n p ≡ true → (s : ℕ) × (s < n) × (p s ≡ true)) → (s : ℕ) × (s < suc n) × (p s ≡ true)
-    go true e h rest = (n, omega arith, e)
-    go false e h rest = let s = rest h in (s.0, omega (arith, s.1), s.2)
-
 -- a majority has a brick
 pub some_of_most : (n : ℕ) (p : ℕ → Bool) → is_most n p ≡ true → (s : ℕ) × (s < n) × (p s ≡ true)
-some_of_most n p h = some_of n p (go n (count n) h)
+some_of_most n p h = some_yes n p (go n (count n) h)
   where
     count : (n : ℕ) → any n p ≡ false → count_below n p ≡ 0
     count zero h = refl

@@ -1,7 +1,6 @@
 -- What a request and its answer leave of what a transaction keeps.
-use Rattle.std.proofs.Common.{◌⊎◌, ◌≡◌, ℕ, ◌<◌, ◌&&◌, ◌||◌, not, ◌==◌, Bool, true, false, List, [], refl, sym, ◌∙◌, ap, subst, arith, None, Some, if◌then◌else◌}
+use Rattle.std.proofs.Common.{◌⊎◌, ◌≡◌, ℕ, ◌<◌, ◌&&◌, ◌||◌, not, ◌==◌, Bool, true, false, List, [], refl, sym, ◌∙◌, ap, subst, arith, None, Some, if◌then◌else◌, inl, inr}
 use Rattle.std.proofs.lemmas.Bool.Decides.{eqb_tells}
-use Rattle.std.proofs.Common.{inl, inr}
 use Rattle.afr_base.specs.Bricks.{added, added_if, member, removed, is_nothing, IsWithin}
 use Rattle.afr_base.specs.SetLemmas.{member_added, member_removed, within_added_if}
 use Rattle.afr_object.specs.declared.change.Change.{Change}

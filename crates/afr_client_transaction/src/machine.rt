@@ -5,7 +5,6 @@ ghost use Rattle.afr_discipline.specs.Stands.{no_lines};
 ghost use Rattle.afr_discipline.specs.declared.register.Register.{Register};
 ghost use Rattle.afr_lines.specs.Told.{told_by};
 ghost use Rattle.afr_lines.specs.declared.answer.Told.{Told};
-ghost use Rattle.afr_model_moves.specs.Register.{span};
 ghost use Rattle.afr_client_transaction.specs.Between.{given_up, is_read, noted_read};
 ghost use Rattle.afr_client_transaction.specs.Made.{attempted};
 ghost use Rattle.afr_client_transaction.specs.Outcome.{outcome_of, reply_of};

@@ -1,6 +1,7 @@
 -- The copies that the read rule chooses from, and the one that it picks.
 use Rattle.std.proofs.Common.{zero, suc, slice_get, ◌≡◌, ℕ, ◌<◌, ◌==◌, ◌||◌, Bool, true, false, List, [], ◌∷◌, refl, sym, ap, ◌∙◌, arith, map, length, subst, if◌then◌else◌, Option, None, Some}
 use Rattle.std.proofs.lemmas.Bool.Decides.{nat_tests}
+use Rattle.std.proofs.lemmas.Bool.{or_right}
 use Rattle.afr_base.specs.Bricks.{is_nothing, member}
 use Rattle.afr_base.specs.declared.ids.BrickId.{BrickId}
 use Rattle.afr_base.specs.declared.ids.Kind.{Kind}
@@ -32,11 +33,7 @@ offers_found (x ∷ from) zero candidate e =
   where
     here : (b : ℕ) (rest : Bool) → ((b == b) || rest) ≡ true
     here b rest = let e : (b == b) ≡ true = grind (arith, nat_tests) in rw e refl
-offers_found (x ∷ from) (suc i) candidate e = either (x.brick.0 == candidate.brick.0) (offers from candidate.brick.0) (offers_found from i candidate e)
-  where
-    either : (a b : Bool) → b ≡ true → (a || b) ≡ true
-    either true b h = refl
-    either false b h = h
+offers_found (x ∷ from) (suc i) candidate e = or_right (x.brick.0 == candidate.brick.0) (offers from candidate.brick.0) (offers_found from i candidate e)
 
 -- what a rule picks is one of the copies
 pub pick_offers : {F : Type 0} (calls : Calls F) (choose : F) (from : List Candidate) (b : BrickId) → IsPick calls choose from b → offers from b.0 ≡ true

@@ -41,6 +41,8 @@ use Rattle.afr_client_transaction.specs.declared.stage.Stage.{Stage}
 use Rattle.afr_client_transaction.specs.declared.stage.Stage.TheVariants.{Locking, Looking, Beginning, Preparing, Applying, Posting, Closing}
 use Rattle.afr_client_transaction.proofs.Allowed.{allowed_moves}
 use Rattle.afr_client_transaction.proofs.Kept.{asks_or_begins, kept_begin, more_left as transaction_more, sound_first, stays_sound as transaction_stays}
+use Rattle.afr_client_transaction.proofs.ReadLemmas.{begins_at}
+use Rattle.afr_client_transaction.proofs.NoteLemmas.{fed_change}
 use Rattle.afr_client_write.specs.Job.{IsJob, change_of, is_empty, is_of_bytes}
 use Rattle.afr_client_write.specs.Laws.{AllowedNext, FedIsAnswered, NotesBegin, NotesEach, StaysSound}
 use Rattle.afr_client_write.specs.Write.{IsStage, IsWrite, Write, after_step, after_walk, at_object, begun_in, choices_at, choices_heard, is_over, next_at, register_at, stage_after, stage_begun, walk_after}
@@ -108,14 +110,6 @@ pub allowed_next : AllowedNext
 allowed_next m k at = allowed_at m.stage m.walk k at
 
 -- ---- what is heard
-fed_change : (stage : Stage) (told : Told) (at : ℕ) (t : TransactionProgress) → (fed stage told at t).change ≡ t.change
-fed_change Locking told at t = refl
-fed_change Looking told at t = refl
-fed_change Beginning told at t = refl
-fed_change Preparing told at t = refl
-fed_change Applying told at t = refl
-fed_change Posting told at t = refl
-fed_change Closing told at t = refl
 
 told_sound : (w : Walk) (t : TransactionProgress) (told : Told) (at : ℕ) → IsStage w (Changing t) → is_over (Changing t) ≡ false → IsStage w (Changing (told_to told at t))
 told_sound w t told at k more = go (is_beginning t.stage)
@@ -123,10 +117,6 @@ told_sound w t told at k more = go (is_beginning t.stage)
     go : (e : Bool) → IsStage w (Changing (if e then t else fed t.stage told at t))
     go true = k
     go false = (transaction_stays t k.0 more told at, ap object_of (fed_change t.stage told at t) ∙ k.1)
-
-begins_at : (stage : Stage) → is_beginning stage ≡ true → stage ≡ Beginning
-begins_at Beginning e = refl
-begins_at stage e = absurd (cc e)
 
 begun_sound : (w : Walk) (t : TransactionProgress) (at : ℕ) → IsStage w (Changing t) → IsStage w (Changing (begun_in at t))
 begun_sound w t at k = go (is_beginning t.stage) refl

@@ -1,7 +1,6 @@
 //! What is changed, and what rules it out.
 ghost use Rattle.std.specs.Prelude.{◌≡◌, ◌<◌, false};
 ghost use Rattle.afr_client_write.specs.Job.{IsJob, change_of, is_empty, is_of_bytes, is_too_large};
-ghost use Rattle.afr_client_transaction.specs.Sound.{Suits};
 
 use afr_base::{Gfid, KeyId, LONGEST_FILE, ValueId};
 use afr_object::{Change, Chunk};

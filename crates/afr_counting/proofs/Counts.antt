@@ -2,9 +2,7 @@
 use Rattle.std.proofs.Common.{◌≡◌, ℕ, zero, suc, ◌+◌, ◌<◌, ◌≤◌, Bool, true, false, ◌⊎◌, inl, inr, refl, sym, ◌∙◌, ap, arith, true≢false}
 use Rattle.std.specs.Prelude.{if◌then◌else◌}
 use Rattle.afr_base.specs.Majority.{count_below}
-
-pub last_or : (b n : ℕ) → b < suc n → (b < n) ⊎ (b ≡ n)
-last_or b n h = grind arith
+use Rattle.afr_base.proofs.TestLemmas.{below_or_last}
 
 pub count_most : (n : ℕ) (p : ℕ → Bool) → count_below n p ≤ n
 count_most zero p = omega arith
@@ -26,7 +24,7 @@ count_less (suc n) p q less = go (q n) refl (p n) refl (count_less n p q (λ x l
 -- one less where b doesn't pass any more
 pub count_falls : (n : ℕ) (p q : ℕ → Bool) (b : ℕ) → ((x : ℕ) → x < n → q x ≡ true → p x ≡ true) → b < n → p b ≡ true → q b ≡ false → count_below n q + 1 ≤ count_below n p
 count_falls zero p q b less low here gone = absurd (omega (arith, low))
-count_falls (suc n) p q b less low here gone = elim (last_or b n low) [
+count_falls (suc n) p q b less low here gone = elim (below_or_last b n low) [
   | inl before ↦ go (q n) refl (p n) refl (count_falls n p q b (λ x l h. less x (omega (arith, l)) h) before here gone)
   | inr last ↦ now (q n) (ap q (sym last) ∙ gone) (p n) (ap p (sym last) ∙ here) (count_less n p q (λ x l h. less x (omega (arith, l)) h))
 ]

@@ -1,10 +1,12 @@
 -- A request that one of the possible sources allows is allowed by each of them, where all are alike or one is left.
 use Rattle.std.proofs.Common.{◌≡◌, ℕ, zero, suc, ◌+◌, ◌<◌, ◌≤◌, ◌&&◌, ◌⊎◌, inl, inr, Bool, true, false, [], nat_le, if◌then◌else◌, refl, sym, ap, subst, ◌∙◌, arith}
 use Rattle.std.proofs.lemmas.Bool.{cases_lt}
+use Rattle.std.proofs.Math.Bool.{and-false, and-true}
 use Rattle.afr_base.proofs.OfFive.{picked_same}
 use Rattle.afr_base.specs.Bricks.{member}
 use Rattle.afr_base.specs.Majority.{count_below}
 use Rattle.afr_base.specs.declared.ids.Kind.{Kind}
+use Rattle.afr_base.proofs.TestLemmas.{below_or_last}
 use Rattle.afr_lines.specs.declared.lock.Domain.TheVariants.{Heal, Work}
 use Rattle.afr_lines.specs.declared.request.Request.{Request}
 use Rattle.afr_lines.specs.declared.request.Request.TheVariants as asks
@@ -20,13 +22,11 @@ use Rattle.afr_discipline.specs.Stands.{seen_as}
 use Rattle.afr_discipline.specs.declared.register.Register.{Register}
 
 -- ---- sets of one brick
-last : (k n : ℕ) → k < suc n → (k < n) ⊎ (k ≡ n)
-last k n l = grind arith
 
 -- a set with a brick counts one at least
 count_one : (n : ℕ) (p : ℕ → Bool) (s : ℕ) → s < n → p s ≡ true → 1 ≤ count_below n p
 count_one zero p s l h = absurd (omega arith)
-count_one (suc n) p s l h = elim (last s n l) [ inl before ↦ more (p n) (count_one n p s before h) | inr here ↦ now (p n) (subst (λ (k : ℕ). p k ≡ true) here h) ]
+count_one (suc n) p s l h = elim (below_or_last s n l) [ inl before ↦ more (p n) (count_one n p s before h) | inr here ↦ now (p n) (subst (λ (k : ℕ). p k ≡ true) here h) ]
   where
     more : (b : Bool) → 1 ≤ count_below n p → 1 ≤ (if b then 1 else 0) + count_below n p
     more true c = omega arith
@@ -40,7 +40,7 @@ count_one (suc n) p s l h = elim (last s n l) [ inl before ↦ more (p n) (count
 count_two : (n : ℕ) (p : ℕ → Bool) (s t : ℕ) → s < t → t < n → p s ≡ true → p t ≡ true → 2 ≤ count_below n p
 count_two zero p s t less l hs ht = absurd (omega arith)
 count_two (suc n) p s t less l hs ht =
-    elim (last t n l) [
+    elim (below_or_last t n l) [
       | inl before ↦ more (p n) (count_two n p s t less before hs ht)
       | inr here ↦ now (p n) (subst (λ (k : ℕ). p k ≡ true) here ht) (count_one n p s (omega (arith, less, here)) hs)
     ]
@@ -62,9 +62,6 @@ one_member p one s t small low hs ht =
     ]
 
 -- ---- who allows a request
-and_yes : (a : Bool) → (a && true) ≡ a
-and_yes true = refl
-and_yes false = refl
 
 module _ (n : ℕ) (keeps : ℕ → Kind → Bool) (r : Exact) (b : ℕ) (request : Request) where
   -- each source that is possible, where all are alike
@@ -72,7 +69,7 @@ module _ (n : ℕ) (keeps : ℕ → Kind → Bool) (r : Exact) (b : ℕ) (reques
   alike_allows alike some s =
       let t = some_yes n (allows n keeps r b request) some in
       let may : may_heal n keeps r s b request ≡ true = alike n s b ∙ sym (alike n t.0 b) ∙ (both (r.possible t.0) (may_heal n keeps r t.0 b request) t.2).1 in
-      ap (λ (m : Bool). r.possible s && m) may ∙ and_yes (r.possible s)
+      ap (λ (m : Bool). r.possible s && m) may ∙ and-true (r.possible s)
 
   -- the one that is left
   left_allows : count_below 5 r.possible ≡ 1 → (s t : ℕ) → s < 5 → t < 5 → allows n keeps r b request t ≡ true → allows n keeps r b request s ≡ r.possible s
@@ -115,11 +112,7 @@ module _ (n : ℕ) (keeps : ℕ → Kind → Bool) (r : Exact) (s b : ℕ) where
       go false h = rw h refl
   early_unlock request u e = absurd (cc u)
 
-and_no : (a : Bool) → (a && false) ≡ false
-and_no true = refl
-and_no false = refl
-
 -- what no source allows leaves none
 pub none_left : (p : Register) (b : ℕ) (request : Request) → ((n s c : ℕ) → may_heal n (keeps_in p.shape) (seen_as p) s c request ≡ false) → [] ≡ still_possible p b request
 none_left p b request never =
-    sym (picked_same (allows p.shape.n (keeps_in p.shape) (seen_as p) b request) (λ (s : ℕ). false) (λ s small. ap (λ (m : Bool). member p.possible s && m) (never p.shape.n s b) ∙ and_no (member p.possible s)))
+    sym (picked_same (allows p.shape.n (keeps_in p.shape) (seen_as p) b request) (λ (s : ℕ). false) (λ s small. ap (λ (m : Bool). member p.possible s && m) (never p.shape.n s b) ∙ and-false (member p.possible s)))

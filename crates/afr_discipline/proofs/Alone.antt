@@ -1,5 +1,6 @@
 -- A request outside a heal is noted at once as if the steps and the locks were noted one after the other.
 use Rattle.std.proofs.Common.{◌≡◌, ℕ, ◌&&◌, ◌||◌, not, Bool, true, false, if◌then◌else◌, [], refl, sym, ap, subst, ◌∙◌, Some}
+use Rattle.std.proofs.Math.Bool.{or-false}
 use Rattle.afr_base.specs.Bricks.{added, added_if}
 use Rattle.afr_base.specs.declared.ids.Kind.{Kind}
 use Rattle.afr_choice.specs.Looks.{no_looks}
@@ -24,14 +25,10 @@ use Rattle.afr_discipline.proofs.InPlace.{noted_in_turn, turn_shape}
 abbrev pub IsCalm : Step → Type 0
 IsCalm step = (n : ℕ) (keeps : ℕ → Kind → Bool) (r : Exact) → stops_at n keeps r (step_of step) ≡ false
 
-or_false : (x : Bool) → (x || false) ≡ x
-or_false true = refl
-or_false false = refl
-
 unstopped : (d : Register) → IsCalm d.step → stopped d ≡ d
 unstopped d calm =
     ap (λ (ends : Bool). record d { broken = d.broken || ends }) (calm d.shape.n (keeps_in d.shape) (seen_as d))
-    ∙ ap (λ (broken : Bool). record d { broken = broken }) (or_false d.broken)
+    ∙ ap (λ (broken : Bool). record d { broken = broken }) (or-false d.broken)
 
 -- ---- Work locks
 -- what the locks keep of one, by whether it was granted and whether the actor holds one

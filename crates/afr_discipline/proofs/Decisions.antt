@@ -166,7 +166,7 @@ same_flag_yes true y h = sym h
 same_flag_yes false true h = absurd (cc h)
 same_flag_yes false false h = refl
 
-same_flag_no : (x y : Bool) → x ≡ y → same_flag x y ≡ true
+pub same_flag_no : (x y : Bool) → x ≡ y → same_flag x y ≡ true
 same_flag_no true y h = sym h
 same_flag_no false true h = absurd (cc h)
 same_flag_no false false h = refl

@@ -4,6 +4,7 @@ use Rattle.afr_base.specs.Bricks.{below, common, is_nothing, lowest, member, min
 use Rattle.afr_base.specs.Majority.{is_most}
 use Rattle.afr_base.specs.SetLemmas.{below_all, lowest_in, lowest_left, member_minus, most_same, none_left, some_member, within_below}
 use Rattle.afr_base.specs.declared.ids.Kind.{Kind}
+use Rattle.afr_base.proofs.TestLemmas.{below_or_last}
 use Rattle.afr_object.specs.declared.entry.View.{View}
 use Rattle.afr_choice.proofs.Agreement.{one_is_missing}
 use Rattle.afr_model_moves.proofs.Tests.{all_no, some_no}
@@ -11,9 +12,6 @@ use Rattle.afr_model_moves.specs.Register.{all, good}
 use Rattle.afr_model_moves.specs.Sets.{any}
 use Rattle.afr_discipline.specs.Tests.{suffices_by}
 use Rattle.afr_discipline.specs.Turns.{find}
-
-last : (k n : ℕ) → k < suc n → (k < n) ⊎ (k ≡ n)
-last k n l = grind arith
 
 -- ---- tests that agree below a number
 pub any_same : (n : ℕ) (p q : ℕ → Bool) → ((x : ℕ) → x < n → p x ≡ q x) → any n p ≡ any n q
@@ -41,7 +39,7 @@ find_none (suc n) p h = rw (find_none n p (λ b l. h b (omega arith)), h n (omeg
 find_some : (n : ℕ) (p : ℕ → Bool) (b : ℕ) → b < n → p b ≡ true → ((c : ℕ) → c < b → p c ≡ false) → find n p ≡ Some b
 find_some zero p b l h least = absurd (omega arith)
 find_some (suc n) p b l h least =
-    elim (last b n l) [
+    elim (below_or_last b n l) [
       | inl before ↦ rw (find_some n p b before h least) refl
       | inr here ↦
           (let yes : p n ≡ true = subst (λ (m : ℕ). p m ≡ true) here h in
@@ -53,13 +51,13 @@ any_none zero p h = refl
 any_none (suc n) p h = rw (h n (omega arith)) (any_none n p (λ b l. h b (omega arith)))
 
 -- ---- the bricks of a set that are below it
-both_of : (x y : Bool) → (not (not x && y) && y) ≡ (x && y)
+pub both_of : (x y : Bool) → (not (not x && y) && y) ≡ (x && y)
 both_of true true = refl
 both_of true false = refl
 both_of false true = refl
 both_of false false = refl
 
-in_common : (s t : List ℕ) (c : ℕ) → member (common s t) c ≡ (member t c && member s c)
+pub in_common : (s t : List ℕ) (c : ℕ) → member (common s t) c ≡ (member t c && member s c)
 in_common s t c = member_minus s (minus s t) c ∙ ap (λ (x : Bool). not x && member s c) (member_minus s t c) ∙ both_of (member t c) (member s c)
 
 module _ (n : ℕ) (s few : List ℕ) (five : n ≤ 5) (is : few ≡ common s (below n)) where

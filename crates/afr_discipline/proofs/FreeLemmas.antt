@@ -1,6 +1,6 @@
 -- A free line is allowed after free lines, and leaves the register one of free lines.
 use Rattle.std.proofs.Common.{◌≡◌, ℕ, zero, suc, ◌<◌, ◌&&◌, nat_lt, Bool, true, false, [], refl, sym, ap, subst, ◌∙◌, arith, inl, inr}
-use Rattle.std.proofs.lemmas.Bool.Decides.{nat_tests}
+use Rattle.std.proofs.lemmas.Bool.{and_from, lt-ltb}
 use Rattle.afr_base.specs.Bricks.{member}
 use Rattle.afr_base.specs.declared.ids.BrickId.{BrickId}
 use Rattle.afr_base.specs.declared.ids.Shape.{Shape}
@@ -73,11 +73,6 @@ pub free_here : (shape : Shape) (r : Register) → IsFree shape r → IsFree r.s
 free_here shape r free = subst (λ (s : Shape). IsFree s r) (sym (shape_is shape r free)) free
 
 -- ---- what is allowed
-both_true : (x y : Bool) → x ≡ true → y ≡ true → (x && y) ≡ true
-both_true x y h k = rw (h, k) refl
-
-below_test : (b n : ℕ) → b < n → nat_lt b n ≡ true
-below_test b n h = grind (arith, nat_tests, h)
 
 free_outside : (shape : Shape) (r : Register) (b : ℕ) (request : Request) → is_free request ≡ true → may_ask_outside shape.n (keeps_in shape) (seen_as r) b request ≡ true
 free_outside shape r b (Look g) h = refl
@@ -92,7 +87,7 @@ pub allows_free : (shape : Shape) (r : Register) (brick : BrickId) (request : Re
 allows_free shape r brick request free h l = λ of is. by free of is
   where
     asks : (x : Register) (asked : BrickId) (other : Request) → asked ≡ brick → other ≡ request → (nat_lt asked.0 shape.n && may_ask_outside shape.n (keeps_in shape) (seen_as x) asked.0 other) ≡ true
-    asks x asked other e f = rw (e, f) (both_true _ _ (below_test brick.0 shape.n l) (free_outside shape x brick.0 request h))
+    asks x asked other e f = rw (e, f) (and_from _ _ (lt-ltb brick.0 shape.n l) (free_outside shape x brick.0 request h))
 
     by : IsFree shape r → AllowsAsk r brick request
     by (inl e) (move.Ask asked other) is = rw e (asks (no_lines shape) asked other.now is.0 is.1)

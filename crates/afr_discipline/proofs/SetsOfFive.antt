@@ -4,6 +4,7 @@ use Rattle.std.proofs.Math.Path.{fun_ext}
 use Rattle.std.proofs.lemmas.Bool.{eqb-true}
 use Rattle.std.proofs.lemmas.Bool.Decides.{nat_tests}
 use Rattle.std.proofs.lemmas.List.{get_or-set_same, get_or-set_other}
+use Rattle.std.proofs.Math.Bool.{and-true}
 use Rattle.afr_base.specs.Bricks.{added, added_if, member, removed}
 use Rattle.afr_base.specs.SetLemmas.{member_added, member_removed}
 use Rattle.afr_base.specs.declared.ids.Kind.TheVariants.{Bytes}
@@ -74,14 +75,10 @@ five_here x few = grind (arith, nat_tests, few)
 
 -- without an arbiter each of the five bricks keeps bytes
 pub keeping_all : (shape : Shape) (m there : Bool) (x : ℕ) → x < 5 → shape.arbiter ≡ false → m ≡ there → m ≡ (there && keeps_in shape x Bytes)
-keeping_all shape m there x few none is = is ∙ sym (ap (λ (k : Bool). there && k) kept ∙ whole there)
+keeping_all shape m there x few none is = is ∙ sym (ap (λ (k : Bool). there && k) kept ∙ and-true there)
   where
     kept : keeps_in shape x Bytes ≡ true
     kept = (λ i. five_here x few i && not (none i && true && (x == 2)))
-
-    whole : (y : Bool) → (y && true) ≡ y
-    whole true = refl
-    whole false = refl
 
 -- with one, each but brick 2
 pub keeping_no_arbiter : (shape : Shape) (m there : Bool) (x : ℕ) → x < 5 → shape.arbiter ≡ true → m ≡ there → (not (2 == x) && m) ≡ (there && keeps_in shape x Bytes)

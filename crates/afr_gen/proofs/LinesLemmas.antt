@@ -5,7 +5,6 @@ use Rattle.std.specs.List.{list_any}
 use Rattle.std.specs.Str.{bytes_eq}
 use Rattle.std.proofs.lemmas.Fmt.{decimal_injective}
 use Rattle.std.proofs.lemmas.Bool.Decides.{nat_tests}
-use Rattle.std.proofs.lemmas.List.{length-append}
 use Rattle.std.proofs.lemmas.List.Folds.{list_any-append}
 use Rattle.std.proofs.lemmas.Slice.Eq.{bytes_eq-Decides}
 use Rattle.afr_base.specs.declared.ids.NameId.{NameId}
@@ -20,6 +19,7 @@ use Rattle.afr_plan.specs.declared.plan.Plan.{Plan}
 use Rattle.afr_gen.specs.Generated.{block, command, generated, has_set, keys, lot, offset, path, script, scripts, sets, value, values}
 use Rattle.afr_gen.specs.Laws.{GeneratedIsSaid}
 use Rattle.afr_gen.specs.Lines.{said_at, said_clients, said_script}
+use Rattle.afr_law_runnable.proofs.SpelledLemmas.{length-file_names}
 
 -- ---- words by their numbers
 -- a word that isn't there has the number after all
@@ -114,10 +114,6 @@ new_file m (suc k) l h =
     let older : list_any (bytes_eq (file_name m)) (file_names k) ≡ false = new_file m k (omega arith) h in
     list_any-append (bytes_eq (file_name m)) (file_names k) (file_name (suc k) ∷ []) ∙ rw (older, one) refl
 
-files-length : (k : ℕ) → length (file_names k) ≡ k
-files-length zero = refl
-files-length (suc k) = omega (arith, length-append (file_names k) (file_name (suc k) ∷ []), files-length k)
-
 -- each file stands at its own place
 placed : (j k : ℕ) → j < k → k < 2 ^ 64 → (number_of (file_names k) (file_name (suc j)) ≡ j) × (list_any (bytes_eq (file_name (suc j))) (file_names k) ≡ true)
 placed j zero l h = absurd (omega arith)
@@ -138,7 +134,7 @@ placed j (suc k) l h = step (nat_lt j k) refl (λ less. placed j k less (omega a
         let most : k ≤ j = grind (arith, nat_tests, e) in
         let equal : j ≡ k = omega arith in
         subst (λ (i : ℕ). (number_of (file_names (suc k)) (file_name (suc i)) ≡ i) × (list_any (bytes_eq (file_name (suc i))) (file_names (suc k)) ≡ true)) (sym equal)
-        (newest (file_name (suc k)) (file_names k) (new_file (suc k) k (omega arith) h) ∙ files-length k, any_newest (file_name (suc k)) (file_names k))
+        (newest (file_name (suc k)) (file_names k) (new_file (suc k) k (omega arith) h) ∙ length-file_names k, any_newest (file_name (suc k)) (file_names k))
 
 -- ---- a plan of which some clients are known
 onto_end : (x : Command) (older : List (List Command)) (newest : List Command) → onto_last x (older ++ newest ∷ []) ≡ older ++ (newest ++ x ∷ []) ∷ []

@@ -6,8 +6,7 @@ use Rattle.afr_model_moves.specs.Register.{Exact, Step, asked_in, over, rank}
 use Rattle.afr_model_moves.specs.Steps.{is_lowest, passed, set_of, turn}
 use Rattle.afr_discipline.specs.Turns.{find, later, turn_of}
 use Rattle.afr_heal.specs.Standing.{behind}
-use Rattle.afr_heal.proofs.Parts.{pair, both, denied}
-use Rattle.afr_heal.proofs.Parts.{not_both, off, or_true}
+use Rattle.afr_heal.proofs.Parts.{pair, both, denied, not_both, off, or_true}
 
 pub find_some : (n : ℕ) (p : ℕ → Bool) (b : ℕ) → find n p ≡ Some b → (b < n) × (p b ≡ true)
 find_some zero p b h = absurd (cc h)

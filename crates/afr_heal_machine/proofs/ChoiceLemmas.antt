@@ -1,7 +1,7 @@
 -- The copies that a rule chooses from, and the bricks that show that a source moved.
 use Rattle.std.proofs.Common.{zero, suc, slice_get, ◌||◌, ◌≡◌, ℕ, ◌<◌, ◌≤◌, ◌==◌, ◌&&◌, ◌∙◌, not, nat_lt, Bool, true, false, List, [], ◌∷◌, refl, sym, ap, arith, filter, map, length, subst, Option, None, Some, if◌then◌else◌}
 use Rattle.std.proofs.lemmas.Bool.Decides.{nat_tests}
-use Rattle.std.proofs.lemmas.Bool.{eqb-true}
+use Rattle.std.proofs.lemmas.Bool.{eqb-true, lt-ltb, ltb-true}
 use Rattle.std.specs.Option.{unwrap_or}
 use Rattle.afr_base.proofs.OfFive.{chosen_same, member_chosen}
 use Rattle.afr_base.specs.Bricks.{all_five, below, common, from_table, member, minus}
@@ -128,10 +128,7 @@ some_listed p kind few has =
     let x = has.some.0 in
     let low = has.some.1.below in
     subst (λ (xs : List ℕ). 0 < length (map (copy_in p.seen) (filter (candidate p.shape.n (keeps_in p.shape) (seen_as p)) xs))) (below_is p.shape.n)
-    (some_left (copy_in p.seen) (λ b. nat_lt b p.shape.n) (candidate p.shape.n (keeps_in p.shape) (seen_as p)) x (low_test x p.shape.n low) has.some.1.passes all_five (from_table 5 (member all_five) refl x (omega (arith, low, few))))
-  where
-    low_test : (x n : ℕ) → x < n → nat_lt x n ≡ true
-    low_test x n l = grind (arith, nat_tests, l)
+    (some_left (copy_in p.seen) (λ b. nat_lt b p.shape.n) (candidate p.shape.n (keeps_in p.shape) (seen_as p)) x (lt-ltb x p.shape.n low) has.some.1.passes all_five (from_table 5 (member all_five) refl x (omega (arith, low, few))))
 
 -- what is chosen may be the source
 picked_passes : (copy : ℕ → Candidate) → ((x : ℕ) → (copy x).brick.0 ≡ x) → (p q : ℕ → Bool) (xs : List ℕ) (i : ℕ) (candidate : Candidate) → slice_get (map copy (filter q (filter p xs))) i ≡ Some candidate → (p candidate.brick.0 ≡ true) × (q candidate.brick.0 ≡ true)
@@ -151,9 +148,6 @@ picked_passes copy same p q (x ∷ xs) i candidate e = go (p x) refl (q x) refl 
 pub chosen_is_candidate : {F : Type 0} (calls : Calls F) (choose : F) (kind : Kind) (p : Register) (chosen : BrickId) → IsChosen calls choose kind p chosen → IsCandidate p chosen.0
 chosen_is_candidate calls choose kind p chosen h = by kind h
   where
-    low : (x n : ℕ) → nat_lt x n ≡ true → x < n
-    low x n e = grind (arith, nat_tests, e)
-
     of_pick : IsPick calls choose (candidates_of p) chosen → IsCandidate p chosen.0
     of_pick w =
         let found = w.3 in
@@ -161,7 +155,7 @@ chosen_is_candidate calls choose kind p chosen h = by kind h
         let passes = picked_passes (copy_in p.seen) (λ x. refl) (λ b. nat_lt b p.shape.n) (candidate p.shape.n (keeps_in p.shape) (seen_as p)) all_five w.0 w.1 listed in
         let is : w.1.brick.0 ≡ chosen.0 = ap (λ (b : BrickId). b.0) (sym w.4) in
         record {
-          below = low chosen.0 p.shape.n (subst (λ (y : ℕ). nat_lt y p.shape.n ≡ true) is passes.0);
+          below = ltb-true chosen.0 p.shape.n (subst (λ (y : ℕ). nat_lt y p.shape.n ≡ true) is passes.0);
           passes = subst (λ (y : ℕ). candidate p.shape.n (keeps_in p.shape) (seen_as p) y ≡ true) is passes.1;
         }
 

@@ -1,6 +1,6 @@
 -- What a healer's next line needs is there.
-use Rattle.std.proofs.Common.{◌≡◌, ◌∙◌, ℕ, ◌<◌, ◌⊎◌, nat_lt, Bool, true, false, not, List, refl, sym, ap, arith, subst, inl, inr}
-use Rattle.std.proofs.lemmas.Bool.Decides.{nat_tests}
+use Rattle.std.proofs.Common.{◌≡◌, ◌∙◌, ℕ, ◌<◌, ◌⊎◌, Bool, true, false, not, List, refl, sym, ap, arith, subst, inl, inr}
+use Rattle.std.proofs.lemmas.Bool.{lt-ltb}
 use Rattle.afr_base.specs.declared.ids.ActorId.{ActorId}
 use Rattle.afr_base.specs.declared.ids.BrickId.{BrickId}
 use Rattle.afr_base.specs.declared.ids.Shape.{Shape}
@@ -66,11 +66,9 @@ first_opens : (at : Place) (g : ℕ) (a : ActorId) (b : BrickId) (asked : Reques
 first_opens at g a b asked told took k e = subst (λ (q : Request). opens at (Ask a b q told took) ≡ true) e (lock_opens at g a b told took k)
 
 -- ---- the index may be asked for before any line
-below_test : (b n : ℕ) → b < n → nat_lt b n ≡ true
-below_test b n h = grind (arith, nat_tests, h)
 
 index_allowed : (shape : Shape) (b : BrickId) → b.0 < shape.n → AllowsAsk (no_lines shape) b Index
-index_allowed shape b low (move.Ask asked of) is = rw (is.0, is.1, below_test b.0 shape.n low) refl
+index_allowed shape b low (move.Ask asked of) is = rw (is.0, is.1, lt-ltb b.0 shape.n low) refl
 index_allowed shape b low (move.Begin change) is = absurd is
 index_allowed shape b low (move.HealBegin g kind) is = absurd is
 index_allowed shape b low (move.End ok) is = absurd is

@@ -1,9 +1,9 @@
 -- A HealBegin or HealEnd line of a healer: it is lawful and the plan's, and the healer's round stands for it.
 use Rattle.std.proofs.Common.{◌≡◌, ◌∙◌, ◌⊎◌, ℕ, ◌<◌, ◌≤◌, ◌==◌, Bool, true, false, List, ◌∷◌, refl, sym, ap, arith, subst, length, inl, inr}
-use Rattle.std.proofs.lemmas.Bool.Decides.{nat_tests}
 use Rattle.afr_law.proofs.Model.Tasks.{no_script}
 use Rattle.afr_base.specs.declared.ids.ActorId.{ActorId}
 use Rattle.afr_base.specs.declared.ids.Shape.{Shape}
+use Rattle.afr_base.proofs.TestLemmas.{same_number}
 use Rattle.afr_discipline.specs.Notes.{noted_part}
 use Rattle.afr_discipline.specs.Stands.{no_lines}
 use Rattle.afr_discipline.specs.declared.register.Move.TheVariants as move
@@ -39,9 +39,6 @@ use Rattle.afr_heal_machine.specs.Outcome.{reply_of}
 use Rattle.afr_server.specs.Serving.{Serving}
 use Rattle.afr_servers.specs.Log.{AreServed}
 use Rattle.afr_law_next.specs.Turn.{InForce, Stood}
-
-pub self : (n : ℕ) → (n == n) ≡ true
-self n = grind (arith, nat_tests)
 
 or_right : {A B : Type 0} → (A → ⊥) → A ⊎ B → B
 or_right {A} {B} other (inl k) = absurd (other k)
@@ -104,23 +101,23 @@ module _ (laws : RoundLaws) (crawl : Bool) (p : Plan) (a : ActorId) (log : List 
       begin_runs = record {
         sound = laws.heal.begun_stays h (length log) runs.sound e;
         shape = comes.stand.own.shape_is;
-        noted = noted_more x.visit.met begin_line (noted_part h.register (length log) h.kind) (is_noted begin_inside).0 (rw (self a.0, (is_noted begin_inside).1) refl) comes.stand.own;
+        noted = noted_more x.visit.met begin_line (noted_part h.register (length log) h.kind) (is_noted begin_inside).0 (rw (same_number a.0, (is_noted begin_inside).1) refl) comes.stand.own;
         sessions = rw s.servers runs.sessions;
-        due = due_kept carries.duty p (work a.0 (begin_line ∷ log)) (work a.0 log) (rw (self a.0) refl) (rw (self a.0) refl) ∙ runs.due;
+        due = due_kept carries.duty p (work a.0 (begin_line ∷ log)) (work a.0 log) (rw (same_number a.0) refl) (rw (same_number a.0) refl) ∙ runs.due;
         on = runs.on;
-        tells = rw (self a.0) (laws.telling.begun h.register h.source.0 h.gfid h.kind h.outcome (heal_by (work a.0 log)) a (length log) log runs.sound.heals e runs.tells);
+        tells = rw (same_number a.0) (laws.telling.begun h.register h.source.0 h.gfid h.kind h.outcome (heal_by (work a.0 log)) a (length log) log runs.sound.heals e runs.tells);
         holds = laws.hearing.begun p h log a runs.sound e runs.holds;
-        unrefused = rw (self a.0) runs.unrefused;
+        unrefused = rw (same_number a.0) runs.unrefused;
       }
 
       begin_carries : CarriesRound crawl p a.0 (begin_line ∷ log) x.visit.met x.visit.epochs new (rounding.begun (length log) m)
       begin_carries = record {
         duty = carries.duty;
-        present = duty_more crawl p a.0 log before.healer m.round.brick carries.duty begin_line (rw (self a.0) refl) refl carries.present (λ item keeps. keeps) runs.due;
+        present = duty_more crawl p a.0 log before.healer m.round.brick carries.duty begin_line (rw (same_number a.0) refl) refl carries.present (λ item keeps. keeps) runs.due;
         shape = carries.shape;
         sound = record { few = carries.sound.few; within = carries.sound.within; staged = rw at_heal (begin_runs.sound, begin_runs.shape ∙ sym carries.shape) };
-        begun = rw (self a.0) (begun_more carries.duty (begun_at (length log) m.stage) (begin_line, log) (work a.0 log));
-        stage = rw at_heal (begin_runs, listed_kept carries.duty p (work a.0 (begin_line ∷ log)) (work a.0 log) m.round.list (rw (self a.0) refl) stands.1, rw (self a.0) stands.2);
+        begun = rw (same_number a.0) (begun_more carries.duty (begun_at (length log) m.stage) (begin_line, log) (work a.0 log));
+        stage = rw at_heal (begin_runs, listed_kept carries.duty p (work a.0 (begin_line ∷ log)) (work a.0 log) m.round.list (rw (same_number a.0) refl) stands.1, rw (same_number a.0) stands.2);
       }
 
       pub heal_begin_keeps : RoundKeeps crawl p a log written y servers new
@@ -158,17 +155,17 @@ module _ (laws : RoundLaws) (crawl : Bool) (p : Plan) (a : ActorId) (log : List 
       border : IsAtBorder crawl carries.duty p a.0 (end_line ∷ log) m.round.brick m.round
       border = record {
         brick_is = refl;
-        present = duty_more crawl p a.0 log before.healer m.round.brick carries.duty end_line (rw (self a.0) refl) refl carries.present (λ item keeps. keeps) runs.due;
+        present = duty_more crawl p a.0 log before.healer m.round.brick carries.duty end_line (rw (same_number a.0) refl) refl carries.present (λ item keeps. keeps) runs.due;
         within = subst (λ (shape : Shape). m.round.brick.0 < shape.n) carries.shape carries.sound.within;
         first = (end_line, log);
         older = work a.0 log;
-        begun = rw (self a.0) refl;
+        begun = rw (same_number a.0) refl;
         place = subst IsAfterHeals (sym ends.1) tt;
         stood = subst (λ (shape : Shape). Stood p.shape a.0 (end_line ∷ log) (no_lines shape)) runs.shape ends.0.stand.own;
-        no_heal = rw (self a.0) refl;
-        listed = listed_kept carries.duty p (work a.0 (end_line ∷ log)) (work a.0 log) m.round.list (rw (self a.0) refl) stands.1;
-        given = rw (self a.0) stands.2;
-        unrefused = rw (self a.0) runs.unrefused;
+        no_heal = rw (same_number a.0) refl;
+        listed = listed_kept carries.duty p (work a.0 (end_line ∷ log)) (work a.0 log) m.round.list (rw (same_number a.0) refl) stands.1;
+        given = rw (same_number a.0) stands.2;
+        unrefused = rw (same_number a.0) runs.unrefused;
       }
 
       end_carries : CarriesRound crawl p a.0 (end_line ∷ log) false x.visit.epochs new (rounding.healed m)

@@ -4,6 +4,7 @@ use Rattle.afr_base.specs.declared.ids.ActorId.{ActorId}
 use Rattle.afr_base.specs.declared.ids.Gfid.{Gfid}
 use Rattle.afr_base.specs.declared.ids.Shape.{Shape}
 use Rattle.afr_base.specs.declared.ids.What.{What}
+use Rattle.afr_base.proofs.TestLemmas.{same_number}
 use Rattle.afr_discipline.specs.Stands.{HasFive}
 use Rattle.afr_discipline.specs.declared.register.Register.{Register}
 use Rattle.afr_heal_round.specs.Rounding.{Rounding, reply_of}
@@ -25,7 +26,7 @@ use Rattle.afr_model_moves.specs.Ranges.{InRange}
 use Rattle.afr_law_next.specs.Standing.{ComesNext}
 use Rattle.afr_plan.specs.declared.plan.Plan.{Plan}
 use Rattle.afr_healer.proofs.Gathered.{RoundLaws}
-use Rattle.afr_healer.proofs.Writes.{kept_served, of_healer, self}
+use Rattle.afr_healer.proofs.Writes.{kept_served, of_healer}
 use Rattle.afr_healer.specs.Acting.{IsEnded}
 use Rattle.afr_healer.proofs.Duties.{begun_over, keeps_duty, task_admits}
 use Rattle.afr_healer.specs.Keeping.{CarriesRound, Duty, HasBegun, IsAfterHeals, IsHealer, IsRoundOver, StageStands, list_of}
@@ -93,9 +94,9 @@ module _ (laws : RoundLaws) (crawl : Bool) (p : Plan) (a : ActorId) (log : List 
     blamed = tt;
     written = Ends (reply_of refused);
     acting = subst (λ (z : Healer). IsHealer crawl p (end_line ∷ log) a.0 new z) (sym s.becomes) (record {
-      ended_is = rw (self a.0) (ap (λ (n : ℕ). n + 1) acting.ended_is);
+      ended_is = rw (same_number a.0) (ap (λ (n : ℕ). n + 1) acting.ended_is);
       killed_is = acting.killed_is;
-      carries = record { unmet = refl; fresh = ends.1; none = rw (self a.0) refl };
+      carries = record { unmet = refl; fresh = ends.1; none = rw (same_number a.0) refl };
     });
     stands = ends.0.stand.others;
     found = λ c epochs apart found. rw s.servers found;

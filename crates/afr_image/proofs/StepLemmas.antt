@@ -4,9 +4,7 @@ use Rattle.std.specs.Prelude.{option_map, if◌then◌else◌}
 use Rattle.std.proofs.lemmas.Bool.{cond-false, cond-true}
 use Rattle.std.proofs.lemmas.List.{get_or-append-add}
 use Rattle.afr_image.specs.declared.step.Step.{Step}
-use Rattle.afr_image.specs.Steps.{steps_bytes}
-use Rattle.afr_image.specs.Steps.{first_bad, steps_in}
-use Rattle.afr_image.specs.Steps.{are_steps, is_step}
+use Rattle.afr_image.specs.Steps.{steps_bytes, first_bad, steps_in, are_steps, is_step}
 
 -- what is read of the bytes of steps
 pub steps_again : (steps : List Step) → steps_in (steps_bytes steps) ≡ steps

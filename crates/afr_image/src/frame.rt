@@ -1,9 +1,8 @@
 //! The frame of an image: its first bytes, its two numbers, and where it ends.
 ghost use Rattle.std.specs.Prelude.{◌≡◌, ◌+◌, ◌<◌, ◌≤◌, ◌^◌, true, Some, IfOk, IfErr, length, nat_eq};
 ghost use Rattle.std.specs.List.{starts_with};
-ghost use Rattle.afr_image.specs.Frame.{magic};
+ghost use Rattle.afr_image.specs.Frame.{magic, frame_fault, number_at};
 ghost use Rattle.afr_image.specs.Frames.{IsFramed};
-ghost use Rattle.afr_image.specs.Frame.{frame_fault, number_at};
 
 use crate::image::{ImageFault, codes};
 use byteorder::{BigEndian, ByteOrder};

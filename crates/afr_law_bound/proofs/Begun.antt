@@ -15,13 +15,12 @@ use Rattle.afr_model_moves.specs.Discipline.{MayAskExactly, MayExactly, MovesExa
 use Rattle.afr_model_moves.specs.Heal.{Gives, Goes, InHeal}
 use Rattle.afr_model_moves.specs.Note.{breaks, left_by, left_in_heal, left_outside, next_part, stay}
 use Rattle.afr_model_moves.specs.Past.{Log, is_gone, is_of}
-use Rattle.afr_model_moves.specs.Register.{Applies, Exact, HealLocks, HealPart, HealPres, HealUnlocks, Looks, Mends, Open, Opening, Posts, Pres, Reads, Settles, Step, Unlocks, Untouched, WorkLocks, same_step}
+use Rattle.afr_model_moves.specs.Register.{Applies, Exact, HealLocks, HealPart, HealPres, HealUnlocks, Looks, Mends, Open, Opening, Posts, Pres, Reads, Settles, Step, Unlocks, Untouched, WorkLocks, same_step, is_finish}
 use Rattle.afr_model_moves.specs.Rules as weak
 use Rattle.afr_model_moves.specs.Rules.{Register, begun, busy, is_area, no_views}
 use Rattle.afr_model_moves.specs.Transaction.{Outside}
 use Rattle.afr_model_moves.specs.Sets.{any, empty, with}
 use Rattle.afr_model_moves.specs.Steps.{after_unlocks, is_lowest, is_next, locks_at, may_heal, may_heal_work}
-use Rattle.afr_model_moves.specs.Register.{is_finish}
 use Rattle.afr_lines.specs.declared.lock.Domain.TheVariants.{Heal, Work}
 use Rattle.afr_law_bound.proofs.Fields.{Still, busy_less, heal_kept, heal_locked, less_dropped, less_still, second_dropped, second_unlocked, still}
 use Rattle.afr_law.proofs.Discipline.Asks.{IsHealLock, heal_dropped}

@@ -1,7 +1,7 @@
 -- In a finite list not each element can have a greater one in it.
 use Rattle.std.proofs.Common.{◌≡◌, ◌∙◌, ℕ, zero, suc, ◌<◌, ◌≤◌, ◌⊎◌, Bool, true, false, inl, inr, refl, sym, subst, arith, List, [], ◌∷◌, true≢false}
-use Rattle.afr_counting.proofs.Counts.{last_or}
 use Rattle.afr_law.proofs.Safety.Locks.{min_both}
+use Rattle.afr_base.proofs.TestLemmas.{below_or_last}
 
 -- an element of a list
 abbrev pub In : {A : Type 0} → A → List A → Type 0
@@ -53,9 +53,9 @@ gather P test (suc k) has = go (test k) refl (gather P test k (λ a low. has a (
     go : (pass : Bool) → test k ≡ pass → Gathered P test k → Gathered P test (suc k)
     go true e g = record {
       all = (k, has k (below_self k) e) ∷ g.all;
-      each = λ a low h. elim (last_or a k low) [
+      each = λ a low h. elim (below_or_last a k low) [
         | inl less ↦ (let w = g.each a less h in (w.0, inr w.1, w.2))
         | inr last ↦ ((k, has k (below_self k) e), inl refl, sym last)
       ];
     }
-    go false e g = record { all = g.all; each = λ a low h. elim (last_or a k low) [ inl less ↦ g.each a less h | inr last ↦ absurd (true≢false (sym h ∙ (subst (λ x. test x ≡ false) (sym last) e))) ] }
+    go false e g = record { all = g.all; each = λ a low h. elim (below_or_last a k low) [ inl less ↦ g.each a less h | inr last ↦ absurd (true≢false (sym h ∙ (subst (λ x. test x ≡ false) (sym last) e))) ] }

@@ -6,6 +6,7 @@ use Rattle.afr_base.specs.SetLemmas.{lowest_left, member_minus, within_below}
 use Rattle.afr_base.specs.declared.ids.ActorId.{ActorId}
 use Rattle.afr_base.specs.declared.ids.Gfid.{Gfid}
 use Rattle.afr_base.specs.declared.ids.Shape.{Shape}
+use Rattle.afr_base.proofs.TestLemmas.{one_value}
 use Rattle.afr_object.specs.Tables.{object_of}
 use Rattle.afr_choice.specs.Verdict.{is_holder}
 use Rattle.afr_choice.specs.VerdictLemmas.{member_holders}
@@ -38,9 +39,6 @@ use Rattle.afr_law_client.specs.Tells.{AreAllowed, AreBegun, During, Tells}
 use Rattle.afr_law_client.proofs.Excused.{any_lock, ask_excused, begin_excused}
 use Rattle.afr_law_client.proofs.Small.{object_named, numbered_kind, numbered_object}
 
-just : {A : Type 0} → (x y : A) → Some x ≡ Some y → x ≡ y
-just x y e = cc e
-
 module _ (p : Plan) (w : Work) (m : TransactionProgress) (s : Sound m) (t : Tells p w m) where
   -- what the locks and looks allow, nothing of theirs refuses
   pub passes : AreAllowed p.shape m.change w → by_locks p.shape (kind_for m.change) (area_for m.change) w ≡ None
@@ -65,7 +63,7 @@ module _ (p : Plan) (w : Work) (m : TransactionProgress) (s : Sound m) (t : Tell
       unbegun = d.idle.unbegun;
       unread = led.unread;
       object = led.object;
-      locked = λ area here. subst (λ (area : Area). member (among (getting area) w) (lowest (left Looking m)) ≡ true) (just _ _ (sym led.area ∙ here))
+      locked = λ area here. subst (λ (area : Area). member (among (getting area) w) (lowest (left Looking m)) ≡ true) (one_value _ _ (sym led.area ∙ here))
           (subst (λ (x : List ℕ). member x (lowest (left Looking m)) ≡ true) t.sets.granted (lowest_left m.asked.locked_on m.asked.looked_at e).1);
     })
     about Beginning line d e led is = subst (λ (line : Line). IsAbout p c line w) (sym is) (led.refuses (passes d.allows), led.asked)

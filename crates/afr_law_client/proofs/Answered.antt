@@ -15,6 +15,7 @@ use Rattle.afr_lines.specs.declared.line.Line.TheVariants.{Ask, Begin}
 use Rattle.afr_lines.specs.declared.request.Area.{Area}
 use Rattle.afr_model_moves.specs.Note as note
 use Rattle.afr_model_moves.specs.Register.{is_on}
+use Rattle.afr_model_moves.proofs.AreaLemmas.{same_area_self}
 use Rattle.afr_discipline.specs.Notes.{asked_at, counts, noted_ask, shown}
 use Rattle.afr_discipline.specs.declared.register.Register.{Register}
 use Rattle.afr_discipline.specs.declared.register.Step.TheVariants as step
@@ -31,7 +32,7 @@ use Rattle.afr_model.specs.Showing.{looked_by, among, looking, has, locks}
 use Rattle.afr_law_client.specs.Tells.{During, HasSets, IsAlone, IsUnseen, OnUnlocks, TooFew, Tried, Unfit, Tells}
 use Rattle.afr_law_client.proofs.GoneOn.{gone_locks, gone_looks, gone_pres, gone_applies, gone_posts, gone_unlock}
 use Rattle.afr_law_client.proofs.Leaves.{Leaves, LeavesAll, lock_leaves, look_counts, look_leaves, look_holds, look_still, pre_leaves, pre_asks, pre_before, apply_leaves, apply_asks, apply_before, post_leaves, post_asks, unlock_leaves}
-use Rattle.afr_law_client.proofs.Small.{area_self, done_told, granted_told, held_told, marked_new, no_number, number_named, object_named, self, shown_told}
+use Rattle.afr_law_client.proofs.Small.{done_told, granted_told, held_told, marked_new, no_number, number_named, object_named, self, shown_told}
 
 module _ (p : Plan) (w : Work) (m : TransactionProgress) (a : ActorId) (told : Told) (took : Bool) (older : List Line) (s : Sound m) (t : Tells p w m) where
   abbrev r : Register
@@ -68,8 +69,8 @@ module _ (p : Plan) (w : Work) (m : TransactionProgress) (a : ActorId) (told : T
 
     lock_sets : HasSets (told_at Locking) (more Locking)
     lock_sets = record {
-      asked = rw (area_self (area_for m.change), ← held_told told, ← t.sets.asked) (marked_new _ (brick Locking) m.asked.lock_asked new.0);
-      granted = rw (area_self (area_for m.change), ← granted_told told, t.sets.granted) refl;
+      asked = rw (same_area_self (area_for m.change), ← held_told told, ← t.sets.asked) (marked_new _ (brick Locking) m.asked.lock_asked new.0);
+      granted = rw (same_area_self (area_for m.change), ← granted_told told, t.sets.granted) refl;
       prepared = lock_left.pre_is ∙ sym d.idle.no_pre_did;
       applied = lock_left.done_is ∙ sym d.idle.no_apply_did;
       posted = lock_left.post_is ∙ sym d.idle.no_post_did;

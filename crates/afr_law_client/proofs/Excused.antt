@@ -1,6 +1,7 @@
 -- Who was asked and didn't do it missed something.
 use Rattle.std.proofs.Common.{◌≡◌, ◌≢◌, ℕ, ◌<◌, ◌==◌, ◌&&◌, ◌||◌, Bool, true, false, not, List, [], ◌∷◌, Some, None, length, refl, sym, ◌∙◌, arith, subst, if◌then◌else◌, ◌⊎◌, inl, inr}
 use Rattle.std.proofs.lemmas.Bool.Decides.{eqb_tells}
+use Rattle.std.proofs.Math.Bool.{or-true}
 use Rattle.afr_base.specs.Bricks.{added, added_if, removed, member}
 use Rattle.afr_base.specs.SetLemmas.{member_added, member_added_if, member_removed}
 use Rattle.afr_base.specs.declared.ids.ActorId.{ActorId}
@@ -43,11 +44,7 @@ since_none test (x ∷ w) none = go (test x.0) refl (has test w) refl none
 
 -- each line joins those that missed something, or leaves them
 missing_grows : (g : Gfid) (line : Line) (s : List ℕ) (c : ℕ) → member s c ≡ true → member (missing g line s) c ≡ true
-missing_grows g (Ask a b r told took) s c m = member_added_if (misses g r told) b.0 s c ∙ rw m (either (misses g r told && (b.0 == c)))
-  where
-    either : (f : Bool) → (f || true) ≡ true
-    either true = refl
-    either false = refl
+missing_grows g (Ask a b r told took) s c m = member_added_if (misses g r told) b.0 s c ∙ rw m (or-true (misses g r told && (b.0 == c)))
 missing_grows g line s c m = m
 
 -- a fault is missed whatever it was asked for, and that the object isn't there where it was looked at

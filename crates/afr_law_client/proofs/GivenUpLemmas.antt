@@ -33,7 +33,8 @@ use Rattle.afr_law_client.specs.GivenUp.{GaveUp, GivenUpAbout, GivenUpEnds, Give
 use Rattle.afr_law_client.specs.Laws.{IsNextLine}
 use Rattle.afr_law_client.specs.Tells.{During, Tells}
 use Rattle.afr_law_client.proofs.Leaves.{LeavesAll, unlock_leaves}
-use Rattle.afr_law_client.proofs.Small.{area_is, no_change, object_named, same_gfid}
+use Rattle.afr_law_client.proofs.Small.{no_change, object_named, same_gfid}
+use Rattle.afr_model_moves.proofs.AreaLemmas.{same_area_is}
 
 -- ---- it is given up
 pub gives_up : GivesUp
@@ -111,7 +112,7 @@ module _ (p : Plan) (w : Work) (m : TransactionProgress) (t : Tells p w (on_stag
 
   locked_is : (area : Area) → has (locks_area area) w ≡ true → (f : Bool) → same_area area (area_for m.change) ≡ f → IsLocked p.shape.n w area
   locked_is area asked false e = let free = t.alone.unlocked area e in absurd (cc (asked, free))
-  locked_is area asked true e = subst (λ (area : Area). IsLocked p.shape.n w area) (sym (area_is area (area_for m.change) e)) (record {
+  locked_is area asked true e = subst (λ (area : Area). IsLocked p.shape.n w area) (sym (same_area_is area (area_for m.change) e)) (record {
     all = t.during.allows.locked.all;
     looked = λ most. subst (λ (h : Gfid). IsIn (among (getting (area_for m.change)) w) (among (looking h) w)) (sym (object_named m.change)) t.during.allows.looked_all;
   })

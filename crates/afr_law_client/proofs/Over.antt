@@ -22,6 +22,8 @@ use Rattle.afr_lines.specs.declared.reply.Reply.TheVariants as reply
 use Rattle.afr_lines.specs.declared.request.Area.{Area}
 use Rattle.afr_model_moves.specs.Keeps.{keeps_in}
 use Rattle.afr_model_moves.specs.Register.{holder}
+use Rattle.afr_model_moves.proofs.Changes.{kind_same}
+use Rattle.afr_model_moves.proofs.AreaLemmas.{same_area_is}
 use Rattle.afr_discipline.specs.Stands.{views_of}
 use Rattle.afr_discipline.specs.Tests.{ends_low, fits_view, lies_in, suffices_by}
 use Rattle.afr_plan.specs.declared.command.Command.{Command}
@@ -44,7 +46,7 @@ use Rattle.afr_law_client.specs.Fits.{IsCalm}
 use Rattle.afr_law_client.specs.Laws.{AsksAllForLocks, EndsAnswered, FailedByBrick, RepliesExactly, SkipsNone, UndisturbedIsDone}
 use Rattle.afr_law_client.specs.Tells.{AreLocked, LinesGoThroughPhases, During, IsUnder, OnUnlocks, TooFew, Tried, Unfit, Tells, lookups_allow}
 use Rattle.afr_law_client.proofs.About.{passes}
-use Rattle.afr_law_client.proofs.Small.{area_is, counted_as, no_change, numbered_kind, numbered_object, object_named, same_gfid, self}
+use Rattle.afr_law_client.proofs.Small.{no_change, numbered_kind, numbered_object, object_named, same_gfid, self}
 use Rattle.afr_law_client.proofs.Views.{all_of, carried_there, holders_suffice, suffices_grows}
 
 -- nobody is no majority
@@ -127,7 +129,7 @@ module _ (p : Plan) (w : Work) (m : TransactionProgress) (s : Sound m) (t : Tell
       allowed : is_majority p.shape.n looked.reached ≡ true → is_majority p.shape.n (holders_of looked) ≡ true → is_nothing (good_copies p.shape looked kind) ≡ false → lookups_allow p.shape m.change looked ≡ true
       allowed q h n =
           pair _ _ (pair _ _ (pair _ _ (pair _ _ (lies m.change k.low) k.low) (all_of p.shape.n (λ x. fits_view (views_of looked x) m.change) k.fits)) q)
-          (subst (λ (of : Kind). suffices_by p.shape.n (keeps_in p.shape) of (views_of looked) (holder (views_of looked)) ≡ true) (sym (counted_as m.change)) (carried_there p.shape looked kind few (shown e) h n))
+          (subst (λ (of : Kind). suffices_by p.shape.n (keeps_in p.shape) of (views_of looked) (holder (views_of looked)) ≡ true) (sym (kind_same m.change)) (carried_there p.shape looked kind few (shown e) h n))
 
       go : (q : Bool) → is_majority p.shape.n looked.reached ≡ q → (h : Bool) → is_majority p.shape.n (holders_of looked) ≡ h → (n : Bool) → is_nothing (good_copies p.shape looked kind) ≡ n
           → by_views p.shape kind looked ≡ Some (reply_from looked (among posted w))
@@ -219,7 +221,7 @@ module _ (p : Plan) (w : Work) (m : TransactionProgress) (t : Tells p w m) where
   -- the area, and every object
   locked_is : on → (area : Area) → has (locks_area area) w ≡ true → (f : Bool) → same_area area (area_for m.change) ≡ f → IsLocked p.shape.n w area
   locked_is d area asked false e = let free = t.alone.unlocked area e in absurd (cc (asked, free))
-  locked_is d area asked true e = subst (λ (area : Area). IsLocked p.shape.n w area) (sym (area_is area (area_for m.change) e)) (record {
+  locked_is d area asked true e = subst (λ (area : Area). IsLocked p.shape.n w area) (sym (same_area_is area (area_for m.change) e)) (record {
     all = (all_locked d).all;
     looked = λ most. subst (λ (h : Gfid). IsIn (among (getting (area_for m.change)) w) (among (looking h) w)) (sym (object_named m.change)) (all_looked d most);
   })

@@ -1,26 +1,21 @@
 -- Small facts of tests, sets, areas and changes.
-use Rattle.std.proofs.Common.{◌≡◌, ℕ, ◌==◌, ◌&&◌, ◌||◌, Bool, true, false, List, [], ◌∷◌, Some, None, refl, sym, ap, arith}
+use Rattle.std.proofs.Common.{◌≡◌, ℕ, ◌==◌, ◌&&◌, ◌||◌, Bool, true, false, List, [], ◌∷◌, None, refl, sym, ap, arith}
 use Rattle.std.proofs.lemmas.Bool.{eqb-true}
 use Rattle.std.proofs.lemmas.Bool.Decides.{nat_tests}
 use Rattle.afr_base.specs.Bricks.{member, added_if, removed}
 use Rattle.afr_base.specs.declared.ids.Gfid.{Gfid}
-use Rattle.afr_base.specs.declared.ids.NameId.{NameId}
 use Rattle.afr_object.specs.Tables.{object_of}
 use Rattle.afr_object.specs.declared.change.Change.{Change}
 use Rattle.afr_object.specs.declared.change.Change.TheVariants as change
 use Rattle.afr_choice.specs.declared.looked.Looked.{Looked}
 use Rattle.afr_lines.specs.Areas.{area_for, kind_for, object_of_area}
 use Rattle.afr_lines.specs.Log.{change_of}
-use Rattle.afr_lines.specs.Overlap.{same_area}
 use Rattle.afr_lines.specs.Work.{Work}
 use Rattle.afr_lines.specs.declared.answer.Told.{Told}
 use Rattle.afr_lines.specs.declared.answer.Told.TheVariants as as_told
 use Rattle.afr_lines.specs.declared.line.Line.{Line}
 use Rattle.afr_lines.specs.declared.line.Line.TheVariants.{Begin}
-use Rattle.afr_lines.specs.declared.request.Area.{Area}
-use Rattle.afr_lines.specs.declared.request.Area.TheVariants.{Range, Name}
 use Rattle.afr_model_moves.specs.Note as note
-use Rattle.afr_model_moves.specs.Honest.{plane_kind}
 use Rattle.afr_model_moves.specs.Rules.{area_object}
 use Rattle.afr_discipline.specs.Notes.{shown}
 use Rattle.afr_client_transaction.specs.Progress.{numbered}
@@ -35,38 +30,6 @@ pub same_gfid : (g h : Gfid) → (g.0 == h.0) ≡ true → g ≡ h
 same_gfid g h e = ap (λ (n : ℕ). let x : Gfid = record { 0 = n } in x) (eqb-true g.0 h.0 e)
 
 -- ---- areas
-pub area_self : (area : Area) → same_area area area ≡ true
-area_self (Range g from to) = rw (self g.0, self from, self to) refl
-area_self (Name g None) = rw (self g.0) refl
-area_self (Name g (Some n)) = rw (self g.0, self n.0) refl
-
-all_three : (x y z : Bool) → (x && y && z) ≡ true → (x ≡ true) × (y ≡ true) × (z ≡ true)
-all_three true true z h = (refl, refl, h)
-all_three true false z h = absurd (cc h)
-all_three false y z h = absurd (cc h)
-
-all_two : (x y : Bool) → (x && y) ≡ true → (x ≡ true) × (y ≡ true)
-all_two true y h = (refl, h)
-all_two false y h = absurd (cc h)
-
--- the same area is equal
-pub area_is : (one other : Area) → same_area one other ≡ true → one ≡ other
-area_is (Range g from to) (Range h start end) e =
-    let parts : ((g.0 == h.0) ≡ true) × ((from == start) ≡ true) × ((to == end) ≡ true) = all_three (g.0 == h.0) (from == start) (to == end) e in
-    let gfid : g ≡ h = same_gfid g h parts.0 in
-    let begins : from ≡ start = eqb-true from start parts.1 in
-    let ends : to ≡ end = eqb-true to end parts.2 in
-    rw (gfid, begins, ends) refl
-area_is (Name g None) (Name h None) e = let gfid : g ≡ h = same_gfid g h (all_two (g.0 == h.0) true e).0 in rw gfid refl
-area_is (Name g (Some n)) (Name h (Some m)) e =
-    let parts = all_two (g.0 == h.0) (n.0 == m.0) e in
-    let gfid : g ≡ h = same_gfid g h parts.0 in
-    let name : n ≡ m = ap (λ (x : ℕ). let y : NameId = record { 0 = x } in y) (eqb-true n.0 m.0 parts.1) in
-    rw (gfid, name) refl
-area_is (Name g None) (Name h (Some m)) e = absurd (cc (all_two (g.0 == h.0) false e).1)
-area_is (Name g (Some n)) (Name h None) e = absurd (cc (all_two (g.0 == h.0) false e).1)
-area_is (Range g from to) (Name h name) e = absurd (cc e)
-area_is (Name g name) (Range h start end) e = absurd (cc e)
 
 pub object_named : (c : Change) → object_of_area (area_for c) ≡ object_of c
 object_named (change.Write g at bytes) = refl
@@ -96,13 +59,6 @@ numbered_kind at (change.Cut g len) = refl
 numbered_kind at (change.SetAttr g key value) = refl
 numbered_kind at (change.Make dir name g what) = refl
 numbered_kind at (change.Remove dir name what) = refl
-
-pub counted_as : (c : Change) → plane_kind c ≡ kind_for c
-counted_as (change.Write g at bytes) = refl
-counted_as (change.Cut g len) = refl
-counted_as (change.SetAttr g key value) = refl
-counted_as (change.Make dir name g what) = refl
-counted_as (change.Remove dir name what) = refl
 
 -- ---- answers: the lines show of one what the register notes of it
 pub held_told : (told : Told) → note.is_held told ≡ show.is_held told

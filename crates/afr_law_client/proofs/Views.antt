@@ -1,11 +1,12 @@
 -- The discipline's tests of views and those of the model say the same.
-use Rattle.std.proofs.Common.{◌≡◌, ℕ, zero, suc, ◌<◌, ◌≤◌, ◌&&◌, ◌||◌, not, Bool, true, false, List, refl, sym, ap, ◌∙◌, subst, arith, inl, inr}
-use Rattle.std.proofs.lemmas.Bool.Decides.{eqb_tells}
+use Rattle.std.proofs.Common.{◌≡◌, ℕ, zero, suc, ◌<◌, ◌≤◌, ◌&&◌, ◌||◌, not, Bool, true, false, List, refl, sym, ap, ◌∙◌, arith}
+use Rattle.std.proofs.lemmas.Bool.{not-true}
 use Rattle.afr_base.specs.Bricks.{lowest, member, minus, is_nothing, IsIn}
 use Rattle.afr_base.specs.Majority.{is_majority}
 use Rattle.afr_base.specs.SetLemmas.{lowest_in, lowest_left, majority_grows, member_minus, most_same, some_member}
 use Rattle.afr_base.specs.declared.ids.Kind.{Kind}
 use Rattle.afr_base.specs.declared.ids.Shape.{Shape}
+use Rattle.afr_base.proofs.TestLemmas.{same_test}
 use Rattle.afr_choice.proofs.Agreement.{good_low, good_tells, holders_tell}
 use Rattle.afr_choice.specs.Verdict.{good_copies, holders_of}
 use Rattle.afr_choice.specs.VerdictLemmas.{good_are_holders}
@@ -13,37 +14,16 @@ use Rattle.afr_choice.specs.declared.looked.Looked.{Looked}
 use Rattle.afr_model_moves.specs.Keeps.{keeps_in}
 use Rattle.afr_model_moves.specs.Register.{all, good, holder}
 use Rattle.afr_model_moves.specs.Sets.{any}
+use Rattle.afr_model_moves.proofs.Tests.{some_yes, some_no}
 use Rattle.afr_discipline.specs.Stands.{views_of}
 use Rattle.afr_discipline.specs.Tests.{suffices_by}
 use Rattle.afr_client_transaction.specs.Sound.{Shown}
-use Rattle.afr_client_transaction.proofs.Parts.{answered_by, both, deny, pair, some_of}
+use Rattle.afr_client_transaction.proofs.Parts.{answered_by, both, deny, pair}
 use Rattle.afr_model.specs.Standing.{suffices}
 
 pub all_of : (n : ℕ) (p : ℕ → Bool) → ((x : ℕ) → x < n → p x ≡ true) → all n p ≡ true
 all_of zero p h = refl
 all_of (suc n) p h = pair (p n) (all n p) (h n (omega arith)) (all_of n p (λ x l. h x (omega (arith, l))))
-
-any_of : (n : ℕ) (p : ℕ → Bool) (x : ℕ) → x < n → p x ≡ true → any n p ≡ true
-any_of zero p x l h = absurd (omega (arith, l))
-any_of (suc n) p x l h = elim (eqb_tells x n) [
-  | inl w ↦ first (p n) (any n p) (subst (λ (y : ℕ). p y ≡ true) w.1 h)
-  | inr w ↦ second (p n) (any n p) (any_of n p x (let d = w.1 in grind (arith, d, l)) h)
-]
-  where
-    first : (a b : Bool) → a ≡ true → (a || b) ≡ true
-    first true b e = refl
-    first false b e = absurd (cc e)
-
-    second : (a b : Bool) → b ≡ true → (a || b) ≡ true
-    second true b e = refl
-    second false b e = e
-
--- two tests that follow from one another are the same
-iff : (x y : Bool) → (x ≡ true → y ≡ true) → (y ≡ true → x ≡ true) → x ≡ y
-iff true true f g = refl
-iff true false f g = sym (f refl)
-iff false true f g = g refl
-iff false false f g = refl
 
 module _ (shape : Shape) (looked : Looked) (kind : Kind) (few : shape.n ≤ 5) (shown : Shown shape.n looked) where
   pub same_holder : (b : ℕ) → b < shape.n → holder (views_of looked) b ≡ member (holders_of looked) b
@@ -61,14 +41,14 @@ module _ (shape : Shape) (looked : Looked) (kind : Kind) (few : shape.n ≤ 5) (
 
   -- a set has a good copy by the one test where it has one by the other
   pub same_enough : (s : List ℕ) → suffices_by shape.n (keeps_in shape) kind (views_of looked) (member s) ≡ suffices shape kind looked s
-  same_enough s = ap (λ (x : Bool). is_majority shape.n s && x) (iff _ _ there back)
+  same_enough s = ap (λ (x : Bool). is_majority shape.n s && x) (same_test _ _ there back)
     where
       copies : List ℕ
       copies = good_copies shape looked kind
 
       there : any shape.n (λ x. member s x && good shape.n (keeps_in shape) kind (views_of looked) x) ≡ true → not (is_nothing (minus copies (minus copies s))) ≡ true
       there h =
-          let one = some_of shape.n (λ x. member s x && good shape.n (keeps_in shape) kind (views_of looked) x) h in
+          let one = some_yes shape.n (λ x. member s x && good shape.n (keeps_in shape) kind (views_of looked) x) h in
           let two = both (member s one.0) _ one.2 in
           let copy : member copies one.0 ≡ true = sym (same_good one.0 one.1) ∙ two.1 in
           let out : member (minus copies s) one.0 ≡ false = member_minus copies s one.0 ∙ rw two.0 refl in
@@ -77,7 +57,7 @@ module _ (shape : Shape) (looked : Looked) (kind : Kind) (few : shape.n ≤ 5) (
       back : not (is_nothing (minus copies (minus copies s))) ≡ true → any shape.n (λ x. member s x && good shape.n (keeps_in shape) kind (views_of looked) x) ≡ true
       back h =
           let some = lowest_left copies (minus copies s) (undeny _ h) in
-          any_of shape.n (λ x. member s x && good shape.n (keeps_in shape) kind (views_of looked) x) (lowest (minus copies (minus copies s))) (good_within _ some.1)
+          some_no shape.n (λ x. member s x && good shape.n (keeps_in shape) kind (views_of looked) x) (lowest (minus copies (minus copies s))) (good_within _ some.1)
           (pair _ _ (in_set _ some.0 some.1) (is_good _ some.1))
         where
           undeny : (x : Bool) → not x ≡ true → x ≡ false
@@ -97,7 +77,7 @@ module _ (shape : Shape) (looked : Looked) (kind : Kind) (few : shape.n ≤ 5) (
       let s = lowest_in (good_copies shape looked kind) clean in
       let l = good_within _ s in
       pair _ _ (most_same shape.n (holder (views_of looked)) (member (holders_of looked)) same_holder ∙ most)
-      (any_of shape.n (λ x. holder (views_of looked) x && good shape.n (keeps_in shape) kind (views_of looked) x) (lowest (good_copies shape looked kind)) l
+      (some_no shape.n (λ x. holder (views_of looked) x && good shape.n (keeps_in shape) kind (views_of looked) x) (lowest (good_copies shape looked kind)) l
       (pair _ _ (same_holder _ l ∙ good_are_holders shape looked kind _ s) (is_good _ s)))
 
 -- more bricks suffice where some do
@@ -107,13 +87,9 @@ suffices_grows shape kind looked s t k h = let parts = both (is_majority shape.n
     copies : List ℕ
     copies = good_copies shape looked kind
 
-    undeny : (x : Bool) → not x ≡ true → x ≡ false
-    undeny true h = absurd (cc h)
-    undeny false h = refl
-
     some : not (is_nothing (minus copies (minus copies s))) ≡ true → not (is_nothing (minus copies (minus copies t))) ≡ true
     some h =
-        let one = lowest_left copies (minus copies s) (undeny _ h) in
+        let one = lowest_left copies (minus copies s) (not-true _ h) in
         let inside : member t (lowest (minus copies (minus copies s))) ≡ true = k _ (in_set _ one.0 one.1) in
         let out : member (minus copies t) (lowest (minus copies (minus copies s))) ≡ false = member_minus copies t _ ∙ rw inside refl in
         deny _ (some_member (minus copies (minus copies t)) (lowest (minus copies (minus copies s))) (member_minus copies (minus copies t) _ ∙ pair _ _ (deny _ out) one.1))

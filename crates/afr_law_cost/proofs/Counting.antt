@@ -3,8 +3,8 @@ use Rattle.std.proofs.Common.{◌≡◌, ℕ, zero, suc, ◌+◌, ◌*◌, ◌<�
 use Rattle.std.proofs.lemmas.Bool.Decides.{nat_tests}
 use Rattle.afr_base.specs.Majority.{count_below}
 use Rattle.afr_heal.proofs.Parts.{both, denied, deny, not_both, pair}
-use Rattle.afr_model_moves.specs.Sets.{without}
 use Rattle.afr_base.specs.SetLemmas.{count_same}
+use Rattle.afr_base.proofs.TestLemmas.{and_not}
 use Rattle.afr_counting.proofs.Counts.{count_falls, count_less, count_most}
 use Rattle.afr_law_cost.specs.Left.{left_in, pieces_by, times}
 
@@ -44,9 +44,6 @@ left_most n set asked = count_most n (λ x. set x && not (asked x))
 pub left_set : (n : ℕ) (set asked : ℕ → Bool) → left_in n set asked ≤ count_below n set
 left_set n set asked = count_less n set (λ x. set x && not (asked x)) (λ x l h. (both (set x) (not (asked x)) h).0)
 
-pub without_here : (set : ℕ → Bool) (b : ℕ) → without set b b ≡ false
-without_here set b = (let e : (b == b) ≡ true = grind (arith, nat_tests) in rw e refl)
-
 -- fewer where the set is no larger and as many were asked
 pub left_less : (n : ℕ) (set set' asked asked' : ℕ → Bool) → ((x : ℕ) → x < n → set' x ≡ true → set x ≡ true) → ((x : ℕ) → x < n → asked x ≡ true → asked' x ≡ true) → left_in n set' asked' ≤ left_in n set asked
 left_less n set set' asked asked' less more = count_less n (λ x. set x && not (asked x)) (λ x. set' x && not (asked' x)) (λ x l h. pair (set x) (not (asked x)) (less x l (both (set' x) (not (asked' x)) h).0) (deny (asked x) (off x l (both (set' x) (not (asked' x)) h).1 (asked x) refl)))
@@ -60,25 +57,15 @@ pub left_falls : (n : ℕ) (set set' asked asked' : ℕ → Bool) (b : ℕ) → 
     → b < n → set b ≡ true → asked b ≡ false → asked' b ≡ true → left_in n set' asked' + 1 ≤ left_in n set asked
 left_falls n set set' asked asked' b less more low here new now = count_falls n (λ x. set x && not (asked x)) (λ x. set' x && not (asked' x)) b
     (λ x l h. pair (set x) (not (asked x)) (less x l (both (set' x) (not (asked' x)) h).0) (deny (asked x) (off x l (both (set' x) (not (asked' x)) h).1 (asked x) refl)))
-    low (pair (set b) (not (asked b)) here (deny (asked b) new)) (gone (set' b) (asked' b) now)
+    low (pair (set b) (not (asked b)) here (deny (asked b) new)) (and_not (set' b) (asked' b) now)
   where
     off : (x : ℕ) → x < n → not (asked' x) ≡ true → (a : Bool) → asked x ≡ a → asked x ≡ false
     off x l h true e = absurd (not_both (asked' x) (more x l e) (denied (asked' x) h))
     off x l h false e = e
 
-    gone : (p a : Bool) → a ≡ true → (p && not a) ≡ false
-    gone true true h = refl
-    gone false true h = refl
-    gone p false h = absurd (not_both false h refl)
-
 -- after the first one of a set at most n - 1 are left
 pub left_one : (n : ℕ) (set asked : ℕ → Bool) (b : ℕ) → b < n → asked b ≡ true → left_in n set asked + 1 ≤ n
-left_one n set asked b low now = count_but n (λ x. set x && not (asked x)) b low (gone (set b) (asked b) now)
-  where
-    gone : (p a : Bool) → a ≡ true → (p && not a) ≡ false
-    gone true true h = refl
-    gone false true h = refl
-    gone p false h = absurd (not_both false h refl)
+left_one n set asked b low now = count_but n (λ x. set x && not (asked x)) b low (and_not (set b) (asked b) now)
 
 -- a brick of the set was not asked
 pub left_some : (n : ℕ) (set asked : ℕ → Bool) (b : ℕ) → b < n → set b ≡ true → asked b ≡ false → 1 ≤ left_in n set asked

@@ -11,18 +11,17 @@ use Rattle.afr_heal.specs.Requests.{area_now, area_or}
 use Rattle.afr_lines.specs.declared.answer.Told.TheVariants as as_told
 use Rattle.afr_lines.specs.declared.request.Area.{Area}
 use Rattle.afr_lines.specs.declared.request.Request.TheVariants.{Unlock}
-use Rattle.afr_model_moves.proofs.AreaLemmas.{heal_freed_own}
+use Rattle.afr_model_moves.proofs.AreaLemmas.{heal_freed_own, same_area_self}
 use Rattle.afr_model_moves.specs.Register.{Exact, whole_area}
 use Rattle.afr_model_moves.specs.Rules as weak
 use Rattle.afr_model_moves.specs.Rules.{Register, heal_area, is_area}
 use Rattle.afr_model_moves.specs.Sets.{with, without}
 use Rattle.afr_lines.specs.declared.lock.Domain.TheVariants.{Heal, Work}
 use Rattle.afr_law_cost.specs.Left.{Rooted}
-use Rattle.afr_law_cost.proofs.Counting.{without_here}
 use Rattle.afr_counting.proofs.Counts.{count_falls, count_less}
 use Rattle.afr_model_moves.proofs.Tests.{without_in}
-use Rattle.afr_model_moves.proofs.AreaLemmas.{same_area_self}
 use Rattle.afr_law_cost.proofs.Early.{Nears}
+use Rattle.afr_law.proofs.Discipline.AskFields.{without_here}
 
 -- the area that is unlocked is that of the register, where there is one
 own : (of : Option Area) (all : Area) → (of ≡ None → ⊥) → is_area of (area_or of all) ≡ true

@@ -1,6 +1,7 @@
 -- Each line of a heal that gives locks back, or asks the first lock of its next part, comes nearer to its end.
 use Rattle.std.proofs.Common.{◌≡◌, ℕ, suc, ◌+◌, ◌*◌, ◌<◌, ◌≤◌, ◌&&◌, not, nat_lt, Bool, true, false, refl, sym, ◌∙◌, subst, ap, arith, if◌then◌else◌}
 use Rattle.std.proofs.lemmas.Bool.Decides.{nat_tests}
+use Rattle.std.proofs.Math.Bool.{and-false}
 use Rattle.afr_base.specs.Majority.{count_below}
 use Rattle.afr_base.specs.declared.ids.Gfid.{Gfid}
 use Rattle.afr_base.specs.declared.ids.Kind.{Kind}
@@ -18,7 +19,7 @@ use Rattle.afr_lines.specs.declared.answer.Told.TheVariants as as_told
 use Rattle.afr_lines.specs.declared.request.Area.{Area}
 use Rattle.afr_lines.specs.declared.request.Request.{Request}
 use Rattle.afr_lines.specs.declared.request.Request.TheVariants.{Lock, Unlock}
-use Rattle.afr_model_moves.proofs.AreaLemmas.{heal_freed_own}
+use Rattle.afr_model_moves.proofs.AreaLemmas.{heal_freed_own, same_area_self}
 use Rattle.afr_model_moves.specs.Note.{next_part}
 use Rattle.afr_model_moves.specs.Register.{Exact, Finish, HealPart, HealPres, HealUnlocks, Mends, Piece, Reads, Settles, Unlocks, WorkLocks, asked_in, is_opening, is_piece, len_of, piece_area, rank, same_step, span, whole_area}
 use Rattle.afr_model_moves.specs.Rules as weak
@@ -28,21 +29,18 @@ use Rattle.afr_model_moves.specs.Steps.{may_heal, set_of, turn}
 use Rattle.afr_lines.specs.declared.lock.Domain.TheVariants.{Heal, Work}
 use Rattle.afr_law_cost.specs.Left.{giving, left_in, lines_left, parts_left, parts_of, pieces, taken, times, todo}
 use Rattle.afr_law_cost.proofs.Bounds.{bound_part}
-use Rattle.afr_law_cost.proofs.Counting.{count_none, left_most, left_one, pieces_fall, times_less, without_here}
+use Rattle.afr_law_cost.proofs.Counting.{count_none, left_most, left_one, pieces_fall, times_less}
 use Rattle.afr_counting.proofs.Counts.{count_falls, count_less}
 use Rattle.afr_model_moves.proofs.Tests.{with_self, without_in}
-use Rattle.afr_model_moves.proofs.AreaLemmas.{same_area_self}
 use Rattle.afr_law_cost.proofs.Early.{as_was, granted_healing, locked_healing}
 use Rattle.afr_law_cost.proofs.Middle.{sets, whole}
+use Rattle.afr_law.proofs.Model.Sums.{no_post}
+use Rattle.afr_law.proofs.Discipline.AskFields.{without_here}
 
 -- ---- counts
 -- where every brick is behind, none is left
 none_left : (n : ℕ) (set : ℕ → Bool) → left_in n set (λ x. true) ≤ 0
-none_left n set = count_none n (λ x. set x && not true) (λ x. off (set x))
-  where
-    off : (p : Bool) → (p && false) ≡ false
-    off true = refl
-    off false = refl
+none_left n set = count_none n (λ x. set x && not true) (λ x. and-false (set x))
 
 no_parts : (n k : ℕ) (h : Bool) → h ≡ false → parts_left n h k ≤ 0
 no_parts n k true e = absurd (not_both true refl e)
@@ -55,10 +53,6 @@ most_parts n k false = omega arith
 some_parts : (n k : ℕ) (h : Bool) → h ≡ true → parts_left n h k ≡ times (suc k) (4 * n + 1)
 some_parts n k true e = refl
 some_parts n k false e = absurd (not_both false e refl)
-
-other_of : (p : Bool) (u v : ℕ) → (if p && false then u else v) ≡ v
-other_of true u v = refl
-other_of false u v = refl
 
 held_falls : (n : ℕ) (held : ℕ → Bool) (b : ℕ) → b < n → held b ≡ true → count_below n (without held b) + 1 ≤ count_below n held
 held_falls n held b l h = count_falls n held (without held b) b (λ x l e. without_in held b x e) l h (without_here held b)
@@ -94,7 +88,7 @@ module _ (n : ℕ) (keeps : ℕ → Kind → Bool) (pick : (ℕ → Bool) → �
       let b : todo n keeps r1 s HealPres ≤ 0 = none_left n (set_of n keeps r1 s HealPres) in
       let c : todo n keeps r1 s Mends ≤ 0 = none_left n (set_of n keeps r1 s Mends) in
       let d : todo n keeps r1 s Settles ≤ 0 = none_left n (set_of n keeps r1 s Settles) in
-      let e : parts_of n r1 s kind ≡ parts_of n r s kind = ap (λ (upto : ℕ). parts_left n (has_part kind q.part) (pieces (len_of (q.first_views s)) upto)) (other_of (is_piece q.part) (after_piece + span) after_piece) in
+      let e : parts_of n r1 s kind ≡ parts_of n r s kind = ap (λ (upto : ℕ). parts_left n (has_part kind q.part) (pieces (len_of (q.first_views s)) upto)) (no_post (is_piece q.part) (after_piece + span) after_piece) in
       omega (arith, a, b, c, d, e)
 
   pub near_unlocks : turn n keeps r s Unlocks b ≡ true → (told : Told) → fits (Unlock Work area) told ≡ true → NearsHere (Unlock Work area) told
@@ -186,7 +180,7 @@ module _ (n : ℕ) (keeps : ℕ → Kind → Bool) (pick : (ℕ → Bool) → �
         let e : nat_lt (rank q.step) 12 ≡ false = grind (arith, nat_tests, u) in
         some_parts n (pieces len (if is_piece q.part && nat_lt (rank q.step) 12 then q.upto + span else q.upto)) (has_part kind q.part) p
         ∙ ap (λ (a : Bool). times (suc (pieces len (if is_piece q.part && a then q.upto + span else q.upto))) (4 * n + 1)) e
-        ∙ ap (λ (upto : ℕ). times (suc (pieces len upto)) (4 * n + 1)) (other_of (is_piece q.part) (q.upto + span) q.upto)
+        ∙ ap (λ (upto : ℕ). times (suc (pieces len upto)) (4 * n + 1)) (no_post (is_piece q.part) (q.upto + span) q.upto)
 
     part_falls : parts_then new_part + (4 * n + 1) ≤ times (suc (pieces len q.upto)) (4 * n + 1)
     part_falls = go (nat_lt q.upto len) refl (same_area (whole_area g.0 Bytes) there) refl

@@ -9,14 +9,13 @@ use Rattle.afr_base.specs.declared.ids.Kind.TheVariants.{Attrs, Bytes, Names}
 use Rattle.afr_heal.proofs.Parts.{not_both}
 use Rattle.afr_heal.specs.Engine.{has_part}
 use Rattle.afr_heal.specs.Standing.{AfterLooks, Ending, First, Going, Healing, Looking, OfKind, Parting, Standing, Viewing, Working, behind}
-use Rattle.afr_model_moves.specs.Register.{Exact, Finish, HealPart, HealPres, Looks, Mends, Opening, Piece, Reads, Settles, Step, holder, is_opening, len_of, over}
+use Rattle.afr_model_moves.specs.Register.{Exact, Finish, HealPart, HealPres, Looks, Mends, Opening, Piece, Reads, Settles, Step, holder, is_opening, len_of, over, span}
 use Rattle.afr_model_moves.specs.Sets.{empty}
 use Rattle.afr_model_moves.specs.Steps.{is_only, looks_at, mends_at, other, pres_at, reads_at, settles_at, sink}
 use Rattle.afr_law_cost.specs.Left.{after_looks, done_at, giving, later_rest, left_at, left_in, lines_left, looking, onward, parts_left, parts_of, pieces, rest_of, times}
 use Rattle.afr_law_cost.proofs.Counting.{count_but, count_none, count_one, left_most, left_set, pieces_most, times_less}
 use Rattle.afr_counting.proofs.Counts.{count_most}
 use Rattle.afr_law_cost.proofs.Bounds.{broken_lines, giving_most, going_lines, rest_giving, whole_lines}
-use Rattle.afr_model_moves.specs.Register.{span}
 
 -- what a set leaves of its bricks, whoever was asked
 left_only : (n s : ℕ) (asked : ℕ → Bool) → left_in n (is_only s) asked ≤ 1

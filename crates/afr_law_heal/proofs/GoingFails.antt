@@ -14,7 +14,7 @@ use Rattle.afr_choice.specs.declared.looked.Looked.{Looked}
 use Rattle.afr_heal.specs.Standing.{AfterLooks, OfKind}
 use Rattle.afr_law_heal.proofs.GoingAfter.{copy_is, holder_is, past_locks, source_is}
 use Rattle.afr_law_heal.proofs.GoingLines.{SameFolds}
-use Rattle.afr_law_heal.proofs.GoingLooks.{all_at, copy_low, get_none, holder_low, in_left, left_in, none_accuses}
+use Rattle.afr_law_heal.proofs.GoingLooks.{copy_low, get_none, holder_low, in_left, left_in, none_accuses}
 use Rattle.afr_heal.proofs.Parts.{both, not_both, pair}
 use Rattle.afr_heal.proofs.StagesForms.{going_at}
 use Rattle.afr_law_heal.specs.Stages.{IsShown, TellsAfter, raises}
@@ -31,6 +31,7 @@ use Rattle.afr_model_moves.specs.Keeps.{keeps_in}
 use Rattle.afr_model_moves.specs.Register.{Exact, Finish, Opening, HealPart, Piece, good, holder, is_finish, is_opening, len_of, unaccused, all}
 use Rattle.afr_object.specs.declared.entry.View.{View}
 use Rattle.afr_model_moves.specs.Steps.{goes_on_at, sink}
+use Rattle.afr_model_moves.proofs.Tests.{all_yes}
 
 -- the cause of Failed
 pub failed_by : (o : Option ActorId) (p : Option HealReply) (b : Bool) (m : Option ℕ) → o ≡ None → p ≡ None → b ≡ false → m ≡ None → or_else (by_owner o) (or_else p (Some (if b then healed.Settled else by_moved m))) ≡ Some healed.Failed
@@ -86,7 +87,7 @@ module _ (shape : Shape) (few : shape.n ≤ 5) (p : Exact) (seen looked : Looked
     -- and at the finish the copies are as long as the source
     as_long : is_finish p.part ≡ true → (x : ℕ) → x < n → sink keeps r s x ≡ true → (len_of (view_at x looked) == len_of (view_at s looked)) ≡ true
     as_long last x l h = surely (sink keeps r s x) _ h (subst (λ (f : ℕ → Option View). (not (sink keeps r s x) || (len_of (f x) == len_of (f s))) ≡ true) shown.views
-        (all_at n (λ x. not (sink keeps r s x) || (len_of (r.views x) == len_of (r.views s))) (by p.part last (both (good n keeps kind r.first_views s) _ k.onwards).1) x l))
+        (all_yes n (λ x. not (sink keeps r s x) || (len_of (r.views x) == len_of (r.views s))) (by p.part last (both (good n keeps kind r.first_views s) _ k.onwards).1) x l))
       where
         surely : (a b : Bool) → a ≡ true → (not a || b) ≡ true → b ≡ true
         surely true b e h = h

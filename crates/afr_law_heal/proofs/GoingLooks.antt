@@ -3,6 +3,7 @@ use Rattle.std.proofs.Common.{◌≡◌, ℕ, zero, suc, ◌<◌, ◌≤◌, ◌
 use Rattle.std.proofs.lemmas.Bool.Decides.{nat_tests}
 use Rattle.std.specs.List.{list_all}
 use Rattle.std.specs.Prelude.{slice_get}
+use Rattle.std.proofs.lemmas.Bool.{or_right}
 use Rattle.afr_base.specs.Bricks.{all_five, below, is_nothing, lowest, member, minus}
 use Rattle.afr_base.specs.Majority.{is_majority, is_most}
 use Rattle.afr_base.specs.Marks.{is_zero_marks, marks_of}
@@ -26,15 +27,10 @@ use Rattle.afr_model_moves.specs.Keeps.{keeps_in}
 use Rattle.afr_model_moves.specs.Register.{accuses, all, good, has_number, holder, shows_number, unaccused}
 use Rattle.afr_model_moves.specs.Rules.{is_none}
 use Rattle.afr_model_moves.specs.Sets.{any}
+use Rattle.afr_model_moves.proofs.Tests.{some_yes, all_yes}
 use Rattle.afr_object.specs.declared.entry.View.{View}
 
 -- ---- lists
--- two tests that follow from one another are the same
-pub iff : (x y : Bool) → (x ≡ true → y ≡ true) → (y ≡ true → x ≡ true) → x ≡ y
-iff true true f g = refl
-iff true false f g = sym (f refl)
-iff false true f g = g refl
-iff false false f g = refl
 
 pub and_false : (m : Bool) → (m && false) ≡ false
 and_false true = refl
@@ -62,11 +58,7 @@ only_left s t b h k only =
 -- no member passes
 pub filter_none : (p : ℕ → Bool) (l : List ℕ) → ((x : ℕ) → member l x ≡ true → p x ≡ false) → filter p l ≡ []
 filter_none p [] h = refl
-filter_none p (y ∷ ys) h = rw (h y (grind (arith, nat_tests))) (filter_none p ys (λ x m. h x (later (y == x) (member ys x) m)))
-  where
-    later : (a b : Bool) → b ≡ true → (a || b) ≡ true
-    later true b e = refl
-    later false b e = e
+filter_none p (y ∷ ys) h = rw (h y (grind (arith, nat_tests))) (filter_none p ys (λ x m. h x (or_right (y == x) (member ys x) m)))
 
 pub get_none : (p : ℕ → Bool) (l : List ℕ) → ((x : ℕ) → member l x ≡ true → p x ≡ false) → slice_get (filter p l) 0 ≡ None
 get_none p l h = ap (λ (k : List ℕ). slice_get k 0) (filter_none p l h)
@@ -85,27 +77,9 @@ not_all p (y ∷ ys) x m h = go (y == x) refl m (p y) refl (not_all p ys x)
     go true g m true i rest = let is : y ≡ x = grind (arith, nat_tests, g) in absurd (not_both (p y) i (subst (λ (z : ℕ). p z ≡ false) (sym is) h))
     go false g m true i rest = rest m h
 
--- a test that all bricks below n pass
-pub all_at : (n : ℕ) (p : ℕ → Bool) → all n p ≡ true → (x : ℕ) → x < n → p x ≡ true
-all_at zero p h x l = absurd (omega (arith, l))
-all_at (suc n) p h x l = go (x == n) refl (all_at n p (both (p n) (all n p) h).1 x)
-  where
-    go : (e : Bool) → (x == n) ≡ e → (x < n → p x ≡ true) → p x ≡ true
-    go true e rest = let is : x ≡ n = grind (arith, nat_tests, e) in subst (λ (y : ℕ). p y ≡ true) (sym is) (both (p n) (all n p) h).0
-    go false e rest = rest (grind (arith, nat_tests, e, l))
-
 pub all_of : (n : ℕ) (p : ℕ → Bool) → ((x : ℕ) → x < n → p x ≡ true) → all n p ≡ true
 all_of zero p h = refl
 all_of (suc n) p h = pair (p n) (all n p) (h n (omega arith)) (all_of n p (λ x l. h x (omega (arith, l))))
-
--- one brick below n that passes
-some_of : (n : ℕ) (p : ℕ → Bool) → any n p ≡ true → (s : ℕ) × (s < n) × (p s ≡ true)
-some_of zero p h = absurd (cc h)
-some_of (suc n) p h = go (p n) refl h (some_of n p)
-  where
-    go : (x : Bool) → p n ≡ x → (x || any n p) ≡ true → (any n p ≡ true → (s : ℕ) × (s < n) × (p s ≡ true)) → (s : ℕ) × (s < suc n) × (p s ≡ true)
-    go true e h rest = (n, omega arith, e)
-    go false e h rest = let s = rest h in (s.0, omega (arith, s.1), s.2)
 
 -- ---- numbers
 -- where all numbers are 0, each is
@@ -133,7 +107,7 @@ none_accuses n kind looked s low h x = go (member looked.reached x) refl
   where
     go : (m : Bool) → member looked.reached x ≡ m → (m && shown_missed kind s (view_at x looked)) ≡ false
     go false e = refl
-    go true e = accuses_same kind s (view_at x looked) ∙ denied (accuses kind (view_at x looked) s) (all_at n (λ x. not (accuses kind (view_at x looked) s)) h x (low x e))
+    go true e = accuses_same kind s (view_at x looked) ∙ denied (accuses kind (view_at x looked) s) (all_yes n (λ x. not (accuses kind (view_at x looked) s)) h x (low x e))
 
 -- ---- the first looks
 module _ (shape : Shape) (seen : Looked) (few : shape.n ≤ 5) (low : (x : ℕ) → member seen.reached x ≡ true → x < shape.n) (answered : IsReached seen) where
@@ -165,7 +139,7 @@ module _ (shape : Shape) (seen : Looked) (few : shape.n ≤ 5) (low : (x : ℕ) 
   -- some number is shown
   pub not_clean : (kind : Kind) → any shape.n (λ x. shows_number kind (view_at x seen)) ≡ true → is_clean kind seen ≡ false
   not_clean kind h =
-      let one = some_of shape.n (λ x. shows_number kind (view_at x seen)) h in
+      let one = some_yes shape.n (λ x. shows_number kind (view_at x seen)) h in
       not_all (λ b. is_zero_marks (marks_in kind (view_at b seen))) (holders_of seen) one.0 (same_holder one.0 one.1 ∙ held (view_at one.0 seen) one.2) (shown_number kind (view_at one.0 seen) one.2)
     where
       held : (v : Option View) → shows_number kind v ≡ true → not (is_none v) ≡ true

@@ -1,6 +1,7 @@
 -- The first Work lock of the next part of a heal, and what its lines tell then.
 use Rattle.std.proofs.Common.{◌≡◌, ℕ, ◌<◌, ◌≤◌, ◌&&◌, ◌||◌, not, ◌==◌, nat_lt, Bool, true, false, List, [], ◌∷◌, refl, sym, ◌∙◌, subst, arith, Option, None, Some, if◌then◌else◌}
 use Rattle.std.proofs.lemmas.Bool.Decides.{nat_tests}
+use Rattle.std.proofs.lemmas.Bool.{or_right, or_left}
 use Rattle.afr_base.specs.Bricks.{added, is_nothing, member, minus, removed}
 use Rattle.afr_base.specs.Kinds.{same_kind}
 use Rattle.afr_base.specs.SetLemmas.{member_added, member_removed, some_member}
@@ -9,6 +10,7 @@ use Rattle.afr_base.specs.declared.ids.Gfid.{Gfid}
 use Rattle.afr_base.specs.declared.ids.Kind.{Kind}
 use Rattle.afr_base.specs.declared.ids.Kind.TheVariants.{Attrs, Bytes, Names}
 use Rattle.afr_base.specs.declared.ids.Shape.{Shape}
+use Rattle.afr_base.proofs.TestLemmas.{same_number}
 use Rattle.afr_choice.specs.Looks.{no_looks}
 use Rattle.afr_choice.specs.declared.looked.Looked.{Looked}
 use Rattle.afr_heal.proofs.Parts.{both, not_both}
@@ -50,32 +52,21 @@ use Rattle.afr_lines.specs.declared.lock.Domain.TheVariants.{Work as WorkDomain}
 use Rattle.afr_heal_machine.specs.declared.outcome.HealOutcome.{HealOutcome}
 use Rattle.afr_heal_machine.specs.declared.outcome.HealOutcome.TheVariants.{Settled}
 
-or_yes : (a b : Bool) → b ≡ true → (a || b) ≡ true
-or_yes true b h = refl
-or_yes false b h = h
-
-first_yes : (a b : Bool) → a ≡ true → (a || b) ≡ true
-first_yes true b h = refl
-first_yes false b h = absurd (cc h)
-
-same_number : (a : ℕ) → (a == a) ≡ true
-same_number a = grind (arith, nat_tests)
-
 -- ---- who was asked
 module _ (b x : ℕ) (s : List ℕ) where
   -- a lock that wasn't told Held
   marked_more : (f : Bool) → member s x ≡ true → member (if f then marked true b s else s) x ≡ true
-  marked_more true h = member_added b s x ∙ or_yes (b == x) (member s x) h
+  marked_more true h = member_added b s x ∙ or_right (b == x) (member s x) h
   marked_more false h = h
 
   -- one that was
   marked_held : (f l : Bool) → member s x ≡ true → ((b == x) ≡ true → l ≡ true) → (member (if f then marked false b s else s) x || (f && true && l)) ≡ true
-  marked_held false l h k = first_yes (member s x) _ h
+  marked_held false l h k = or_left (member s x) _ h
   marked_held true l h k = go (b == x) refl
     where
       go : (e : Bool) → (b == x) ≡ e → (member (removed b s) x || (true && l)) ≡ true
-      go true e = or_yes (member (removed b s) x) l (k e)
-      go false e = first_yes (member (removed b s) x) l (member_removed b s x ∙ rw (e, h) refl)
+      go true e = or_right (member (removed b s) x) l (k e)
+      go false e = or_left (member (removed b s) x) l (member_removed b s x ∙ rw (e, h) refl)
 
   -- one that was granted
   granted_more : (f : Bool) (P : Bool) → (member s x ≡ true → P ≡ true) → ((b == x) ≡ true → P ≡ true) → member (if f && true then added b s else s) x ≡ true → P ≡ true
@@ -250,11 +241,11 @@ module _ (shape : Shape) (few : shape.n ≤ 5) (p : Exact) (seen looked : Looked
         granted_part f e held = by f (whole_is f e)
           where
             worked : (x : ℕ) → member (among heal_getting w) x ≡ true → (z : Bool) → (member (among (asking (whole_of g kind)) (v as_told.Granted)) x || z) ≡ true
-            worked x h z = first_yes _ z (marked_more b x (among (asking (whole_of g kind)) w) (same_area (whole_of g kind) there) (asked_before shape few p seen looked s g kind area k w shown ta x h))
+            worked x h z = or_left _ z (marked_more b x (among (asking (whole_of g kind)) w) (same_area (whole_of g kind) there) (asked_before shape few p seen looked s g kind area k w shown ta x h))
 
             watched : (x : ℕ) → member (among (getting (whole_of g kind)) (v as_told.Granted)) x ≡ true → (member seen.reached x || member (first_by w).missing x) ≡ true
             watched x h = granted_more b x (among (getting (whole_of g kind)) w) (same_area (whole_of g kind) there) _ (ta.watched x)
-                (λ e. (let is : b ≡ x = grind (arith, nat_tests, e) in first_yes _ (member (first_by w).missing x) (subst (λ (y : ℕ). member seen.reached y ≡ true) is (reached_there over hp b t there on a took log)))) h
+                (λ e. (let is : b ≡ x = grind (arith, nat_tests, e) in or_left _ (member (first_by w).missing x) (subst (λ (y : ℕ). member seen.reached y ≡ true) is (reached_there over hp b t there on a took log)))) h
 
             by : (f : Bool) → f ≡ same_area (whole_of g kind) there → Leaves as_told.Granted (part_at n keeps r (part_of f) (with empty b) still false (record (begun r.law there) { held = held }))
             by true e = record { at = after_lock over hp b t there on a took log as_told.Granted Finish (with empty b) still (record (begun r.law there) { held = held }) false refl e refl (λ x h. worked x h _) watched; will = λ h. will }

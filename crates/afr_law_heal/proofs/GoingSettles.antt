@@ -9,6 +9,7 @@ use Rattle.afr_base.specs.declared.ids.Kind.{Kind}
 use Rattle.afr_base.specs.declared.ids.Kind.TheVariants.{Attrs, Bytes, Names}
 use Rattle.afr_base.specs.declared.ids.Shape.{Shape}
 use Rattle.afr_base.specs.declared.marks.Marks.{Marks}
+use Rattle.afr_base.proofs.TestLemmas.{same_test}
 use Rattle.afr_choice.specs.Looks.{view_at}
 use Rattle.afr_choice.specs.Verdict.{holders_of}
 use Rattle.afr_choice.specs.declared.looked.Looked.{Looked}
@@ -20,7 +21,7 @@ use Rattle.afr_heal.proofs.StagesForms.{going_at}
 use Rattle.afr_heal.specs.Engine.{has_part}
 use Rattle.afr_heal.specs.Standing.{AfterLooks}
 use Rattle.afr_law_heal.proofs.GoingAfter.{behind_here, holder_is, raised_all, settle_set, source_is}
-use Rattle.afr_law_heal.proofs.GoingLooks.{and_false, all_at, all_of, holder_low, iff, left_in, no_way}
+use Rattle.afr_law_heal.proofs.GoingLooks.{and_false, all_of, holder_low, left_in, no_way}
 use Rattle.afr_law_heal.specs.Stages.{IsShown, TellsAfter, raises}
 use Rattle.afr_lines.specs.Work.{Work}
 use Rattle.afr_lines.specs.declared.request.Area.{Area}
@@ -32,6 +33,7 @@ use Rattle.afr_model_moves.specs.Keeps.{keeps_in}
 use Rattle.afr_model_moves.specs.Register.{Exact, HealPres, Settles, all, holder}
 use Rattle.afr_model_moves.specs.Rules.{is_none}
 use Rattle.afr_model_moves.specs.Steps.{changed, mends_over, passed, pres_over, raised, reads_over, turn}
+use Rattle.afr_model_moves.proofs.Tests.{all_yes}
 use Rattle.afr_object.specs.declared.entry.View.{View}
 
 -- five numbers, each kept where its brick is in the set
@@ -64,13 +66,13 @@ module _ (shape : Shape) (few : shape.n ≤ 5) (p : Exact) (seen looked : Looked
 
     -- every brick of the volume is a holder
     all_hold : all n (holder r.first_views) ≡ is_nothing (minus (below n) (holders_in w))
-    all_hold = iff _ _ there back
+    all_hold = same_test _ _ there back
       where
         there : all n (holder r.first_views) ≡ true → is_nothing (minus (below n) (holders_in w)) ≡ true
         there h = no_member (minus (below n) (holders_in w)) (λ x m.
             let two = left_in (below n) (holders_in w) x m in
             let l = within_below n x two.0 in
-            not_both (member (holders_in w) x) (holder_there x l ∙ all_at n (holder r.first_views) h x l) two.1)
+            not_both (member (holders_in w) x) (holder_there x l ∙ all_yes n (holder r.first_views) h x l) two.1)
 
         back : is_nothing (minus (below n) (holders_in w)) ≡ true → all n (holder r.first_views) ≡ true
         back h = all_of n (holder r.first_views) (λ x l. sym (holder_there x l) ∙ none_left (below n) (holders_in w) h x (below_all n x few l))

@@ -10,6 +10,7 @@ use Rattle.afr_base.specs.declared.ids.Kind.TheVariants.{Attrs, Bytes, Names}
 use Rattle.afr_base.specs.declared.ids.Shape.{Shape}
 use Rattle.afr_base.specs.declared.marks.Marks.{Marks}
 use Rattle.afr_choice.specs.declared.looked.Looked.{Looked}
+use Rattle.afr_choice.proofs.Unaccused.{and_yes}
 use Rattle.afr_discipline.specs.Turns.{less_in}
 use Rattle.afr_heal.proofs.Finding.{turn_low, turn_new, turn_set}
 use Rattle.afr_heal.proofs.Parts.{both}
@@ -56,10 +57,6 @@ with_more b x s rest test old new = member_added b s x ∙ (let flip : (b == x) 
     go true e = let is : (b == x) ≡ true = grind (arith, nat_tests, e) in rw (new is) refl
     go false e = refl
 
-yes_one : (m : Bool) → m ≡ (m && true)
-yes_one true = refl
-yes_one false = refl
-
 module _ (shape : Shape) (few : shape.n ≤ 5) (p : Exact) (seen looked : Looked) (s : ℕ) (g : Gfid) (kind : Kind) (area : Area) where
   abbrev n : ℕ
   n = shape.n
@@ -87,7 +84,7 @@ module _ (shape : Shape) (few : shape.n ≤ 5) (p : Exact) (seen looked : Looked
     settle_before h x l = rw (not_behind r Settles x h) refl
 
     pub settle_after : passed n keeps r s Settles ≡ true → (x : ℕ) → x < n → (not (has_part kind p.part) && holder r.first_views x && behind r Settles x) ≡ (not (has_part kind p.part) && holder r.first_views x && true)
-    settle_after h x l = settled_all shape few p seen looked s g kind area k h x l ∙ yes_one (not (has_part kind p.part) && holder r.first_views x)
+    settle_after h x l = settled_all shape few p seen looked s g kind area k h x l ∙ and_yes (not (has_part kind p.part) && holder r.first_views x)
 
     -- who hasn't settled
     pub unsettled_before : nat_lt (rank r.step) 11 ≡ true → (x : ℕ) → x < n → member (among settled_at w) x ≡ false

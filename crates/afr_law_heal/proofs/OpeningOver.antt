@@ -13,9 +13,8 @@ use Rattle.afr_law_heal.specs.Stages.{TellsLocks, TellsWork}
 use Rattle.afr_lines.specs.Work.{Work}
 use Rattle.afr_lines.specs.declared.reply.HealReply.{HealReply}
 use Rattle.afr_lines.specs.declared.reply.HealReply.TheVariants as healed
-use Rattle.afr_model.specs.Healing.{busy_by, first_by, heal_getting, whole_of}
+use Rattle.afr_model.specs.Healing.{busy_by, first_by, heal_getting, whole_of, First}
 use Rattle.afr_model.specs.HealReplies.{IsHealAnswered, by_first, by_owner, heal_reply, or_else}
-use Rattle.afr_model.specs.Healing.{First}
 use Rattle.afr_model.specs.Showing.{among}
 use Rattle.afr_model.specs.Standing.{getting}
 use Rattle.afr_model_moves.specs.Register.{Exact, HealLocks, asked_in, everywhere, over}

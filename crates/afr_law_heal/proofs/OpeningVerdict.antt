@@ -2,6 +2,7 @@
 use Rattle.std.proofs.Common.{◌≡◌, ℕ, ◌<◌, ◌≤◌, ◌==◌, ◌&&◌, ◌||◌, not, Bool, true, false, List, [], ◌∷◌, Option, Some, None, length, is_some, refl, sym, ◌∙◌, ap, subst, arith, if◌then◌else◌}
 use Rattle.std.proofs.lemmas.Bool.Decides.{nat_tests}
 use Rattle.std.specs.List.{list_all}
+use Rattle.std.proofs.lemmas.Bool.{or_right}
 use Rattle.afr_base.specs.Bricks.{below, lowest, member, minus, is_nothing}
 use Rattle.afr_base.specs.Majority.{is_majority}
 use Rattle.afr_base.specs.Marks.{is_zero_marks, marks_of}
@@ -44,13 +45,9 @@ some_fails : (p : ℕ → Bool) (s : List ℕ) → list_all p s ≡ false → (x
 some_fails p [] h = absurd (cc h)
 some_fails p (y ∷ ys) h = go (p y) refl h (some_fails p ys)
   where
-    second : (a m : Bool) → m ≡ true → (a || m) ≡ true
-    second true m h = refl
-    second false m h = h
-
     go : (f : Bool) → p y ≡ f → (f && list_all p ys) ≡ false → (list_all p ys ≡ false → (x : ℕ) × (member ys x ≡ true) × (p x ≡ false)) → (x : ℕ) × (member (y ∷ ys) x ≡ true) × (p x ≡ false)
     go false e h rest = (y, (let same : (y == y) ≡ true = grind (arith, nat_tests) in rw same refl), e)
-    go true e h rest = let one = rest h in (one.0, second (y == one.0) (member ys one.0) one.1, one.2)
+    go true e h rest = let one = rest h in (one.0, or_right (y == one.0) (member ys one.0) one.1, one.2)
 
 -- numbers that aren't all zero have one above zero
 some_number : (dirty : ℕ) (pending : List ℕ) → length pending ≡ 5 → is_zero_marks (record { dirty = dirty; pending = pending }) ≡ false → has_number (record { dirty = dirty; pending = pending }) ≡ true

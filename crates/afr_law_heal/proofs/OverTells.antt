@@ -1,5 +1,6 @@
 -- A heal that was ended gives its locks back, and its reply stands.
 use Rattle.std.proofs.Common.{ℕ, ◌≡◌, ◌∷◌, ◌||◌, Bool, List, None, Option, Some, ap, false, if◌then◌else◌, refl, subst, sym, true, ◌∙◌}
+use Rattle.std.proofs.lemmas.Bool.{or_right}
 use Rattle.afr_base.specs.declared.ids.ActorId.{ActorId}
 use Rattle.afr_base.specs.declared.ids.BrickId.{BrickId}
 use Rattle.afr_base.specs.declared.ids.Gfid.{Gfid}
@@ -39,10 +40,6 @@ pub free_of : (a : ActorId) (b : BrickId) (domain : Domain) (area : Area) (told 
 free_of a b domain area told took None = refl
 free_of a b domain area told took (Some owner) = refl
 
-yes_or : (x y : Bool) → y ≡ true → (x || y) ≡ true
-yes_or true y h = refl
-yes_or false y h = h
-
 -- whatever it is told, nothing was skipped where nothing was
 pub asked_still : (shape : Shape) (g : Gfid) (kind : Kind) (w : Work) (a : ActorId) (b : BrickId) (domain : Domain) (area : Area) (told : Told) (took : Bool) (log : List Line)
     → IsHealAsked shape g kind w → IsHealAsked shape g kind ((line.Ask a b (Unlock domain area) told took, log) ∷ w)
@@ -53,7 +50,7 @@ pub reply_stands : (shape : Shape) (g : Gfid) (kind : Kind) (w : Work) (said : H
     → IsHealAnswered shape g kind w said → IsHealAnswered shape g kind ((line.Ask a b (Unlock domain area) told took, log) ∷ w) said
 reply_stands shape g kind w said a b domain area told took log k = record {
   caused = ap (λ (o : Option ActorId). or_else (by_owner o) (or_else (by_first shape kind (first_by w)) (Some (if is_settled w then healed.Settled else by_moved (moved_by shape g kind w))))) same ∙ k.caused;
-  failed = λ h. yes_or _ (is_failed w) (k.failed h);
+  failed = λ h. or_right _ (is_failed w) (k.failed h);
   asked = λ h. asked_still shape g kind w a b domain area told took log (k.asked (sym same ∙ h));
 }
   where

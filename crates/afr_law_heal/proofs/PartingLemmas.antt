@@ -1,6 +1,6 @@
 -- Small facts of sets and tests, for the later parts of a heal.
 use Rattle.std.proofs.Common.{ℕ, ◌≡◌, ◌<◌, ◌≤◌, ◌≢◌, ◌&&◌, ◌||◌, ◌==◌, ◌∙◌, if◌then◌else◌, [], ◌∷◌, Bool, List, None, arith, false, filter, inl, inr, not, refl, slice_get, sym, true}
-use Rattle.std.proofs.lemmas.Bool.{cases_lt, eqb-true}
+use Rattle.std.proofs.lemmas.Bool.{cases_lt, eqb-true, or_left}
 use Rattle.std.proofs.lemmas.Bool.Decides.{eqb_tells}
 use Rattle.afr_base.specs.Bricks.{added, is_nothing, member, minus, removed}
 use Rattle.afr_base.specs.SetLemmas.{member_added, member_minus, member_removed}
@@ -12,10 +12,6 @@ use Rattle.afr_model_moves.proofs.Tests.{same_self}
 use Rattle.afr_model_moves.specs.Steps.{is_lowest}
 
 -- ---- tests
--- one of two is there
-pub or_left : (a b : Bool) → a ≡ true → (a || b) ≡ true
-or_left true b h = refl
-or_left false b h = absurd (cc h)
 
 -- of a half that is off
 pub or_last : (a f l : Bool) → (a || ((f && false) && l)) ≡ true → a ≡ true

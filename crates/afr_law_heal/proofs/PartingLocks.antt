@@ -1,6 +1,7 @@
 -- What the lines of a heal tell while it asks the Work locks of a later part.
 use Rattle.std.proofs.Common.{ℕ, ◌≡◌, ◌+◌, ◌<◌, ◌≤◌, ◌&&◌, ◌||◌, ◌==◌, ◌∙◌, if◌then◌else◌, [], ◌∷◌, Bool, List, None, Option, Some, arith, false, is_some, nat_lt, not, refl, subst, suc, sym, true, zero}
 use Rattle.std.proofs.lemmas.Bool.Decides.{nat_tests}
+use Rattle.std.proofs.lemmas.Bool.{or_left}
 use Rattle.afr_base.specs.Bricks.{is_nothing, member, minus}
 use Rattle.afr_base.specs.declared.ids.ActorId.{ActorId}
 use Rattle.afr_base.specs.declared.ids.Gfid.{Gfid}
@@ -16,7 +17,7 @@ use Rattle.afr_heal.specs.Answers.{PicksOne, asked_for, begun_at, fits}
 use Rattle.afr_heal.specs.Engine.{Begins, has_part, next_of}
 use Rattle.afr_heal.specs.Standing.{AtPart}
 use Rattle.afr_law_heal.proofs.PartingEnds.{has_view, late_reply, moved_unseen, not_settled}
-use Rattle.afr_law_heal.proofs.PartingLemmas.{asked_again, asked_more, granted_more, lowest_parts, or_left, some_left}
+use Rattle.afr_law_heal.proofs.PartingLemmas.{asked_again, asked_more, granted_more, lowest_parts, some_left}
 use Rattle.afr_law_heal.proofs.StageLaws.{TellsAsked, TellsNext}
 use Rattle.afr_law_heal.specs.HealTelling.{Tells, TellsAt}
 use Rattle.afr_law_heal.specs.Stages.{IsShown, TellsAfter}

@@ -1,6 +1,6 @@
 -- What the lines of a heal tell while it looks at its copies again, in a later part.
 use Rattle.std.proofs.Common.{ℕ, ◌≡◌, ◌<◌, ◌≤◌, ◌&&◌, ◌||◌, ◌==◌, ◌∙◌, if◌then◌else◌, ◌∷◌, Bool, List, None, Option, Some, arith, ap, false, inl, inr, is_some, not, refl, subst, sym, true}
-use Rattle.std.proofs.lemmas.Bool.{eqb-true}
+use Rattle.std.proofs.lemmas.Bool.{eqb-true, or_left}
 use Rattle.std.proofs.lemmas.Bool.Decides.{eqb_tells}
 use Rattle.afr_base.specs.Bricks.{is_nothing, member, minus, removed}
 use Rattle.afr_base.specs.SetLemmas.{member_added, member_removed}
@@ -18,7 +18,7 @@ use Rattle.afr_heal.proofs.Parts.{both, not_both, or_true, pair}
 use Rattle.afr_heal.proofs.StagesForms.{shape as formed}
 use Rattle.afr_heal.specs.Engine.{has_part}
 use Rattle.afr_law_heal.proofs.PartingEnds.{late_reply, moved_seen, moved_unseen, not_settled, source_found}
-use Rattle.afr_law_heal.proofs.PartingLemmas.{nothing_left, or_last, or_left, some_left}
+use Rattle.afr_law_heal.proofs.PartingLemmas.{nothing_left, or_last, some_left}
 use Rattle.afr_law_heal.proofs.PartingLocks.{ends_told, in_looks, still_tells}
 use Rattle.afr_law_heal.proofs.ViewingMoved.{goes_unmoved}
 use Rattle.afr_law_heal.specs.HealTelling.{Tells}

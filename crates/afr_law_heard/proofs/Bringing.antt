@@ -3,6 +3,7 @@ use Rattle.std.proofs.Common.{◌≡◌, ℕ, Bool, true, false, List, Some, len
 use Rattle.afr_base.specs.Bricks.{is_nothing}
 use Rattle.afr_base.specs.declared.ids.BrickId.{BrickId}
 use Rattle.afr_base.specs.declared.ids.Gfid.{Gfid}
+use Rattle.afr_base.proofs.TestLemmas.{one_value}
 use Rattle.afr_client_read.specs.Job.{request_of}
 use Rattle.afr_client_read.specs.Lookup as reading
 use Rattle.afr_client_read.specs.declared.job.Wanted.{Wanted}
@@ -49,9 +50,6 @@ use Rattle.afr_law_heard.proofs.SomeLines.{AreIn, work_in}
 use Rattle.afr_law_heard.proofs.Stood.{change_in}
 use Rattle.afr_law_heard.specs.Hears.{LookupBrings, MakesNothing, WriteBrings, WriteMakesNothing}
 
-just : {A : Type 0} → (x y : A) → Some x ≡ Some y → x ≡ y
-just x y e = cc e
-
 -- ---- reads
 -- neither a walk nor a read asks for what would need a load
 pub step_brings : (log : List Line) (past : Past) (w : Walk) (step : WalkStep) → Brings (walk.next_at step w).1 load.Nothing log past
@@ -80,9 +78,9 @@ lookup_brings m log past b request e = go m.stage e
 -- ---- the change of a command
 -- its words make nothing
 named_nothing : (c : Command) (object : Entry) (change : Change) → IsChangeOf c object change → MakesNothing change
-named_nothing (command.Write path at bytes) object change k = subst MakesNothing (just (change_of.Write object.gfid at bytes) change k.named) tt
-named_nothing (command.Cut path len) object change k = subst MakesNothing (just (change_of.Cut object.gfid len) change k.named) tt
-named_nothing (command.SetAttr path key value) object change k = subst MakesNothing (just (change_of.SetAttr object.gfid key value) change k.named) tt
+named_nothing (command.Write path at bytes) object change k = subst MakesNothing (one_value (change_of.Write object.gfid at bytes) change k.named) tt
+named_nothing (command.Cut path len) object change k = subst MakesNothing (one_value (change_of.Cut object.gfid len) change k.named) tt
+named_nothing (command.SetAttr path key value) object change k = subst MakesNothing (one_value (change_of.SetAttr object.gfid key value) change k.named) tt
 named_nothing other object change k = absurd (cc k.named)
 
 -- so its Begin line has it as it is

@@ -30,19 +30,11 @@ use Rattle.afr_law_tables.specs.CopyLaws.{gfid_is}
 use Rattle.afr_law_tables.specs.TableLaws.{copy_stays}
 use Rattle.afr_law_heard.proofs.SomeLines.{AreIn, IsBefore, copy_since, honest_before, work_in}
 use Rattle.afr_law_heard.specs.Finds.{FindsSeen, FindsSource}
+use Rattle.afr_law_client.proofs.Write.Goes.{nothing_shown}
 
 -- each brick that shows a view has the object
 abbrev AllHave : Plan → List Line → Gfid → Looked → Type 0
 AllHave p log g looked = (b : ℕ) (view : View) → view_at b looked ≡ Some view → has_object p log g b ≡ true
-
--- before any look nobody shows one
-nothing_shown : (b : ℕ) → view_at b no_looks ≡ None
-nothing_shown zero = refl
-nothing_shown (suc zero) = refl
-nothing_shown (suc (suc zero)) = refl
-nothing_shown (suc (suc (suc zero))) = refl
-nothing_shown (suc (suc (suc (suc zero)))) = refl
-nothing_shown (suc (suc (suc (suc (suc b))))) = refl
 
 none_have : (p : Plan) (log : List Line) (g : Gfid) → AllHave p log g no_looks
 none_have p log g b view e = absurd (cc (sym (nothing_shown b) ∙ e))

@@ -3,6 +3,7 @@ use Rattle.std.proofs.Common.{◌≡◌, ℕ, ◌<◌, ◌==◌, true, false, Li
 use Rattle.std.proofs.lemmas.Bool.Decides.{nat_tests}
 use Rattle.afr_base.specs.declared.ids.Gfid.{Gfid}
 use Rattle.afr_base.specs.declared.ids.NameId.{NameId}
+use Rattle.afr_base.proofs.TestLemmas.{same_number}
 use Rattle.afr_law.specs.ModelKinds.{Before, Named, Now, SaysKind, Top, WasTable}
 use Rattle.afr_lines.specs.Log.{change_at}
 use Rattle.afr_lines.specs.Work.{Work, work}
@@ -19,13 +20,10 @@ use Rattle.afr_plan.specs.declared.plan.Plan.{Plan}
 use Rattle.afr_law_heard.proofs.SomeLines.{AreIn, IsBefore, work_in}
 use Rattle.afr_law_heard.specs.Finds.{FindsAttempt, FindsPath}
 
-self : (n : ℕ) → (n == n) ≡ true
-self n = grind (arith, nat_tests)
-
 -- ---- the path
 -- the tables before the newest line, and before an older one
 held_now : (p : Plan) (line : Line) (older : List Line) (b : ℕ) → held_before p (line ∷ older) (length older) b ≡ holds p older b
-held_now p line older b = rw (self (length older)) refl
+held_now p line older b = rw (same_number (length older)) refl
 
 held_then : (p : Plan) (line : Line) (older : List Line) (k b : ℕ) → k < length older → held_before p (line ∷ older) k b ≡ held_before p older k b
 held_then p line older k b low = (let e : (k == length older) ≡ false = grind (arith, nat_tests, low) in rw e refl)
@@ -85,7 +83,7 @@ change_since start (line ∷ older) (inl is) q low = (subst (λ (x : List Line).
 change_since start (line ∷ older) (inr k) q low = (let w = change_since start older k q low in let less = w.0 in (omega (arith, less), still q line older less ∙ w.1))
 
 line_attempt : (log : List Line) (line : Line) (older : List Line) → IsBefore (line ∷ older) log → (w : Work) → IsAttempt log w → IsAttempt log ((line, older) ∷ w)
-line_attempt log (Begin a change) older before w k q e = (at.0, at.1 ∙ subst (λ (n : ℕ). change_at n (Begin a change ∷ older) ≡ Some change) same (rw (self (length older)) refl))
+line_attempt log (Begin a change) older before w k q e = (at.0, at.1 ∙ subst (λ (n : ℕ). change_at n (Begin a change ∷ older) ≡ Some change) same (rw (same_number (length older)) refl))
   where
     same : length older ≡ q
     same = cc e

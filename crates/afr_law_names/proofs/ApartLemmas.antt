@@ -1,9 +1,9 @@
 -- Only directories have names, so no name leads to its own directory where it leads to a file.
 use Rattle.std.proofs.Common.{◌≡◌, ℕ, suc, zero, Bool, true, false, ◌&&◌, refl, sym, ◌∙◌, ap, subst, arith, List, [], ◌∷◌, Option, None, Some, ◌==◌, if◌then◌else◌, take}
-use Rattle.std.proofs.lemmas.Bool.Decides.{nat_tests}
 use Rattle.std.proofs.lemmas.Option.{same_Some}
 use Rattle.std.specs.BTreeMap.{is_at, insert_entry}
 use Rattle.std.specs.Map.{lookup, remove_entry}
+use Rattle.std.proofs.lemmas.Bool.{ne_eqb}
 use Rattle.afr_base.specs.Marks.{dirtied, closed_op, taken_back}
 use Rattle.afr_base.specs.declared.ids.Gfid.{Gfid}
 use Rattle.afr_base.specs.declared.ids.Kind.{Kind}
@@ -30,6 +30,7 @@ use Rattle.afr_plan.specs.declared.plan.Plan.{Plan}
 use Rattle.afr_law.specs.ModelKinds.{ModelOneKind, Now}
 use Rattle.afr_law_tables.proofs.Merged.{NameTable}
 use Rattle.afr_law_tables.proofs.Sound.{EachCopy, each_all_made, each_changed, each_made}
+use Rattle.afr_law_tables.specs.CopyLaws.{gfid_is}
 use Rattle.afr_law_names.specs.Apart.{FilesElsewhere, OnlyDirectoriesHaveNames}
 
 -- a file has no names
@@ -133,12 +134,6 @@ only_directories p log b g o h = all_apart p log b g o h
 pub files_elsewhere : ModelOneKind → FilesElsewhere
 files_elsewhere kinds p log b dir name e five short honest lawful is file = go (copy_at dir (holds p log b)) refl
   where
-    differs : (x y : ℕ) → (x ≡ y → ⊥) → (x == y) ≡ false
-    differs x y h = grind (arith, nat_tests, h)
-
-    same_id : (x y : Gfid) → x.0 ≡ y.0 → x ≡ y
-    same_id x y h = ap (λ (n : ℕ). record { 0 = n }) h
-
     no_names : (o : Object) → o.names ≡ [] → entry_in name (Some o) ≡ Some e → ⊥
     no_names o none h = absurd (cc (sym (ap (λ (names : NameTable). lookup (is_at (name_cmp name)) names) none) ∙ h))
 
@@ -150,8 +145,8 @@ files_elsewhere kinds p log b dir name e five short honest lawful is file = go (
     there o at false k same = no_names o (all_apart p log b dir o at k) (subst (λ (x : Option Object). entry_in name x ≡ Some e) at is)
     there o at true k same =
         no_file o.what k
-        ((kinds p log five short honest lawful).entries (holds p log b) (holds p log b) (Now b refl) (Now b refl) dir name e o is (subst (λ (g : Gfid). copy_at g (holds p log b) ≡ Some o) (sym (same_id e.gfid dir same)) at) ∙ file)
+        ((kinds p log five short honest lawful).entries (holds p log b) (holds p log b) (Now b refl) (Now b refl) dir name e o is (subst (λ (g : Gfid). copy_at g (holds p log b) ≡ Some o) (sym (gfid_is e.gfid dir same)) at) ∙ file)
 
     go : (o : Option Object) → copy_at dir (holds p log b) ≡ o → (e.gfid.0 == dir.0) ≡ false
     go None at = absurd (cc (sym (ap (entry_in name) at) ∙ is))
-    go (Some o) at = differs e.gfid.0 dir.0 (there o at (is_dir o.what) refl)
+    go (Some o) at = ne_eqb e.gfid.0 dir.0 (there o at (is_dir o.what) refl)

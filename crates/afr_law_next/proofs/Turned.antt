@@ -1,8 +1,9 @@
 -- A turn keeps the log lawful and each register at its actor's lines, for every kind of line.
 use Rattle.std.proofs.Common.{◌≡◌, ℕ, ◌≤◌, ◌==◌, Bool, true, false, List, ◌∷◌, refl, sym, ◌∙◌, subst, arith, length, Some, if◌then◌else◌, inl, inr}
-use Rattle.std.proofs.lemmas.Bool.Decides.{nat_tests}
+use Rattle.std.proofs.lemmas.Bool.{ne_eqb}
 use Rattle.afr_base.specs.declared.ids.ActorId.{ActorId}
 use Rattle.afr_base.specs.declared.ids.Shape.{Shape}
+use Rattle.afr_base.proofs.TestLemmas.{same_number}
 use Rattle.afr_lines.specs.Work.{is_of}
 use Rattle.afr_lines.specs.declared.answer.Told.{Told}
 use Rattle.afr_lines.specs.declared.line.Line.{Line}
@@ -14,20 +15,12 @@ use Rattle.afr_discipline.specs.Inside.{may_move}
 use Rattle.afr_discipline.specs.Moves.{MayMove, note_move}
 use Rattle.afr_discipline.specs.Notes.{AsksBelow, noted}
 use Rattle.afr_model_moves.specs.Keeps.{keeps_in}
-use Rattle.afr_discipline.specs.Stands.{Stands, seen_as}
+use Rattle.afr_discipline.specs.Stands.{Stands, seen_as, HasFive}
 use Rattle.afr_discipline.specs.declared.register.Move.{Move}
 use Rattle.afr_discipline.specs.declared.register.Move.TheVariants as move
 use Rattle.afr_discipline.specs.declared.register.Register.{Register}
 use Rattle.afr_discipline.specs.Laws.{FreshStands, NotesStand, ShapesKept, TestsDecide}
-use Rattle.afr_discipline.specs.Stands.{HasFive}
-use Rattle.afr_law_next.specs.Turn.{register_at}
-use Rattle.afr_law_next.specs.Turn.{BeginsAnew, EachLineIsKept, GoesOn, InForce, IsLineOf, IsTurn, Stood}
-
-self : (a : ℕ) → (a == a) ≡ true
-self a = grind (arith, nat_tests)
-
-apart : (a c : ℕ) → (a ≡ c → ⊥) → (a == c) ≡ false
-apart a c h = grind (arith, nat_tests, h)
+use Rattle.afr_law_next.specs.Turn.{register_at, BeginsAnew, EachLineIsKept, GoesOn, InForce, IsLineOf, IsTurn, Stood}
 
 pub begins_anew : FreshStands → BeginsAnew
 begins_anew first shape a log line few opening = record { shape_is = refl; stands = rw opening (first shape few) }
@@ -61,36 +54,36 @@ module _ (decides : TestsDecide) (notes : NotesStand) (shapes : ShapesKept) (sha
     where
       by : InForce shape a.0 log (line_of.Ask a b request.now told w.0) p → IsTurn shape a log p (move.Ask b request) told (line_of.Ask a b request.now told w.0)
       by k = let line = line_of.Ask a b request.now told w.0 in record {
-        lawful = moved line (self a.0) k (move.Ask b request) may;
-        own = own_by line (self a.0) k (move.Ask b request) told refl below;
-        others = others_by line (self a.0) k (λ c h. apart a.0 c h);
+        lawful = moved line (same_number a.0) k (move.Ask b request) may;
+        own = own_by line (same_number a.0) k (move.Ask b request) told refl below;
+        others = others_by line (same_number a.0) k (λ c h. ne_eqb a.0 c h);
       }
   kept_line (move.Begin change) told line k below w may = rw w (by (rw w at k))
     where
       by : InForce shape a.0 log (line_of.Begin a change.now) p → IsTurn shape a log p (move.Begin change) told (line_of.Begin a change.now)
       by k = let line = line_of.Begin a change.now in record {
-        lawful = moved line (self a.0) k (move.Begin change) may;
-        own = own_by line (self a.0) k (move.Begin change) told refl below;
-        others = others_by line (self a.0) k (λ c h. apart a.0 c h);
+        lawful = moved line (same_number a.0) k (move.Begin change) may;
+        own = own_by line (same_number a.0) k (move.Begin change) told refl below;
+        others = others_by line (same_number a.0) k (λ c h. ne_eqb a.0 c h);
       }
   kept_line (move.HealBegin g kind) told line k below w may = rw w (by (rw w at k))
     where
       by : InForce shape a.0 log (line_of.HealBegin a g kind) p → IsTurn shape a log p (move.HealBegin g kind) told (line_of.HealBegin a g kind)
       by k = let line = line_of.HealBegin a g kind in record {
-        lawful = moved line (self a.0) k (move.HealBegin g kind) may;
-        own = own_by line (self a.0) k (move.HealBegin g kind) told refl below;
-        others = others_by line (self a.0) k (λ c h. apart a.0 c h);
+        lawful = moved line (same_number a.0) k (move.HealBegin g kind) may;
+        own = own_by line (same_number a.0) k (move.HealBegin g kind) told refl below;
+        others = others_by line (same_number a.0) k (λ c h. ne_eqb a.0 c h);
       }
   kept_line (move.End ok) told line k below (inl w) may = rw w.is (by (subst (λ (line : Line). InForce shape a.0 log line p) w.is k))
     where
       by : InForce shape a.0 log (line_of.End a w.reply) p → IsTurn shape a log p (move.End ok) told (line_of.End a w.reply)
       by k = let line = line_of.End a w.reply in record {
-        lawful = elim (moved line (self a.0) k (move.End ok) may) [
+        lawful = elim (moved line (same_number a.0) k (move.End ok) may) [
           | inl m ↦ subst (λ (ok : Bool). MayEnd shape.n (register_at shape log line a.0) ok) (sym w.says) m
           | inr m ↦ absurd (clash _ m.inside (k.stands.inside ∙ w.outside))
         ];
-        own = own_by line (self a.0) k (move.End ok) told (pick _ (k.stands.inside ∙ w.outside)) below;
-        others = others_by line (self a.0) k (λ c h. apart a.0 c h);
+        own = own_by line (same_number a.0) k (move.End ok) told (pick _ (k.stands.inside ∙ w.outside)) below;
+        others = others_by line (same_number a.0) k (λ c h. ne_eqb a.0 c h);
       }
         where
           clash : (f : Bool) → f ≡ true → f ≡ false → ⊥
@@ -103,12 +96,12 @@ module _ (decides : TestsDecide) (notes : NotesStand) (shapes : ShapesKept) (sha
     where
       by : InForce shape a.0 log (line_of.HealEnd a w.gfid w.kind w.reply) p → IsTurn shape a log p (move.End ok) told (line_of.HealEnd a w.gfid w.kind w.reply)
       by k = let line = line_of.HealEnd a w.gfid w.kind w.reply in record {
-        lawful = elim (moved line (self a.0) k (move.End ok) may) [
+        lawful = elim (moved line (same_number a.0) k (move.End ok) may) [
           | inl m ↦ absurd (clash _ (k.stands.inside ∙ w.inside) m.outside)
           | inr m ↦ m
         ];
-        own = own_by line (self a.0) k (move.End ok) told (pick _ (k.stands.inside ∙ w.inside)) below;
-        others = others_by line (self a.0) k (λ c h. apart a.0 c h);
+        own = own_by line (same_number a.0) k (move.End ok) told (pick _ (k.stands.inside ∙ w.inside)) below;
+        others = others_by line (same_number a.0) k (λ c h. ne_eqb a.0 c h);
       }
         where
           clash : (f : Bool) → f ≡ true → f ≡ false → ⊥

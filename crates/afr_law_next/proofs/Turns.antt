@@ -1,11 +1,11 @@
 -- A line that its actor's register allows comes next, and all registers stand for it.
 use Rattle.std.proofs.Common.{◌≡◌, ℕ, ◌<◌, ◌≤◌, ◌==◌, Bool, true, false, inl, inr, refl, subst, arith, List, ◌∷◌, length}
 use Rattle.std.specs.Prelude.{Some, if◌then◌else◌}
-use Rattle.std.proofs.lemmas.Bool.Decides.{nat_tests}
 use Rattle.afr_base.specs.declared.ids.ActorId.{ActorId}
 use Rattle.afr_base.specs.declared.ids.BrickId.{BrickId}
 use Rattle.afr_base.specs.declared.ids.Gfid.{Gfid}
 use Rattle.afr_base.specs.declared.ids.Kind.{Kind}
+use Rattle.afr_base.proofs.TestLemmas.{same_number}
 use Rattle.afr_object.specs.declared.change.Change.{Change}
 use Rattle.afr_object.specs.declared.change.Change.TheVariants.{Write, Cut, SetAttr, Make, Remove}
 use Rattle.afr_lines.specs.declared.lock.Domain.TheVariants.{Heal, Work}
@@ -99,8 +99,6 @@ may_begin kept p log a change r few five k may range known =
     comes p log a (Begin a change) _ turn.lawful range known (record { own = turn.own; others = turn.others })
 
 -- ---- an End
-self : (a : ℕ) → (a == a) ≡ true
-self a = grind (arith, nat_tests)
 
 ends_fresh : (at : Place) (a : ActorId) (said : Reply) → next_place at (End a said) ≡ Fresh
 ends_fresh Fresh a said = refl
@@ -112,7 +110,7 @@ pub may_end : EachLineIsKept → AllowedMayEnd
 may_end kept p log a said r few five k outside may range =
     let step = move.End (is_ok said) in
     let turn = kept p.shape a log r step NotConnected (End a said) few five k tt (inl (record { outside = outside; reply = said; is = refl; says = refl })) (may step refl) in
-    (comes p log a (End a said) r turn.lawful range tt (record { own = subst (Stood p.shape a.0 (End a said ∷ log)) (stays r.inside outside) turn.own; others = turn.others }), rw (self a.0) (ends_fresh (place_of a.0 log) a said))
+    (comes p log a (End a said) r turn.lawful range tt (record { own = subst (Stood p.shape a.0 (End a said ∷ log)) (stays r.inside outside) turn.own; others = turn.others }), rw (same_number a.0) (ends_fresh (place_of a.0 log) a said))
   where
     stays : (inside : Bool) → inside ≡ false → (if inside then no_lines r.shape else r) ≡ r
     stays true e = cc e
@@ -134,7 +132,7 @@ pub may_heal_end : EachLineIsKept → AllowedMayHealEnd
 may_heal_end kept p log a g kind said r few five k inside may range =
     let turn = kept p.shape a log r (move.End true) NotConnected (HealEnd a g kind said) few five k tt (inr (record { inside = inside; gfid = g; kind = kind; reply = said; is = refl })) may in (
       comes p log a (HealEnd a g kind said) (no_lines r.shape) turn.lawful range tt (record { own = subst (Stood p.shape a.0 (HealEnd a g kind said ∷ log)) (leaves r.inside inside) turn.own; others = turn.others }),
-      rw (self a.0) (heal_ends_between (place_of a.0 log) a g kind said),
+      rw (same_number a.0) (heal_ends_between (place_of a.0 log) a g kind said),
     )
   where
     leaves : (inside : Bool) → inside ≡ true → (if inside then no_lines r.shape else r) ≡ no_lines r.shape

@@ -17,11 +17,10 @@ use Rattle.afr_model_moves.specs.Register.{Exact}
 use Rattle.afr_discipline.specs.Inside.{may_move}
 use Rattle.afr_discipline.specs.Notes.{AsksBelow, noted}
 use Rattle.afr_model_moves.specs.Keeps.{keeps_in}
-use Rattle.afr_discipline.specs.Stands.{Stands, no_lines, seen_as}
+use Rattle.afr_discipline.specs.Stands.{Stands, no_lines, seen_as, HasFive}
 use Rattle.afr_discipline.specs.declared.register.Move.{Move}
 use Rattle.afr_discipline.specs.declared.register.Move.TheVariants as move
 use Rattle.afr_discipline.specs.declared.register.Register.{Register}
-use Rattle.afr_discipline.specs.Stands.{HasFive}
 
 -- the register in force at a line after these: where the line opens a work or a heal, that of no line
 abbrev pub register_at : Shape → List Line → Line → ℕ → Exact

@@ -3,6 +3,7 @@ use Rattle.std.proofs.Common.{◌≡◌, ℕ, ◌+◌, ◌<◌, ◌≤◌, ◌==
 use Rattle.std.proofs.lemmas.Bool.Decides.{nat_tests}
 use Rattle.afr_base.specs.Bricks.{added, member, minus, removed}
 use Rattle.afr_base.specs.SetLemmas.{member_added, member_minus, member_removed}
+use Rattle.afr_base.proofs.TestLemmas.{unless_then}
 use Rattle.afr_counting.proofs.Counts.{count_falls}
 use Rattle.afr_law_pace.specs.Left.{count}
 
@@ -33,7 +34,4 @@ removed_falls n b s low here = count_falls n (member s) (member (removed b s)) b
     gone b x = (let e : (b == b) ≡ true = grind (arith, nat_tests) in rw e refl)
 
     less : (x : ℕ) → member (removed b s) x ≡ true → member s x ≡ true
-    less x e = part (b == x) (member s x) (sym (member_removed b s x) ∙ e)
-      where
-        part : (h y : Bool) → (not h && y) ≡ true → y ≡ true
-        part h y e = grind arith
+    less x e = unless_then (b == x) (member s x) (sym (member_removed b s x) ∙ e)

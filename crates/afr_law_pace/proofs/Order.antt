@@ -6,7 +6,8 @@ use Rattle.afr_model_moves.proofs.Tests.{three_cases}
 use Rattle.std.proofs.lemmas.Bool.Decides.{nat_tests}
 use Rattle.afr_base.specs.Bricks.{added, added_if, all_five, below, is_nothing, lowest, member, minus}
 use Rattle.afr_base.specs.SetLemmas.{below_all, lowest_left, member_added, member_minus, some_member, within_below}
-use Rattle.afr_lines.specs.Areas.{area_for}
+use Rattle.afr_base.proofs.TestLemmas.{unless_then}
+use Rattle.afr_lines.specs.Areas.{area_for, kind_for}
 use Rattle.afr_model_moves.specs.Note.{is_held}
 use Rattle.afr_law_pace.specs.Laws.{AsksAbove, StartsQueued, StaysQueued}
 use Rattle.afr_law_pace.specs.Left.{InOrder, IsQueued}
@@ -14,7 +15,6 @@ use Rattle.afr_client_transaction.specs.Progress.{TransactionProgress, after, an
 use Rattle.afr_client_transaction.specs.Sound.{During, IsAsking}
 use Rattle.afr_client_transaction.specs.declared.stage.Stage.TheVariants.{Applying, Beginning, Closing, Locking, Looking, Posting, Preparing}
 use Rattle.afr_client_transaction.specs.declared.stage.Stage.{Stage}
-use Rattle.afr_lines.specs.Areas.{kind_for}
 
 pub starts_queued : StartsQueued
 starts_queued change r = λ c x h low. absurd (true≢false (sym h))
@@ -35,10 +35,7 @@ minus_rises [] t r = tt
 minus_rises (x ∷ xs) t r = go (member t x) (minus_rises xs t r.1)
   where
     part : (y : ℕ) → member (minus xs t) y ≡ true → member xs y ≡ true
-    part y h = second (member t y) (member xs y) (sym (member_minus xs t y) ∙ h)
-      where
-        second : (a b : Bool) → (not a && b) ≡ true → b ≡ true
-        second a b e = grind arith
+    part y h = unless_then (member t y) (member xs y) (sym (member_minus xs t y) ∙ h)
 
     go : (drop_it : Bool) → Rises (minus xs t) → Rises (if drop_it then minus xs t else x ∷ minus xs t)
     go true k = k

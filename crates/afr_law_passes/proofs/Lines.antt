@@ -34,6 +34,7 @@ use Rattle.afr_base.specs.Keeping.{keeps as keeps_kind}
 use Rattle.afr_base.specs.Majority.{is_most}
 use Rattle.afr_base.specs.Kinds.{same_kind}
 use Rattle.afr_base.specs.declared.marks.Marks.{Marks}
+use Rattle.afr_base.proofs.TestLemmas.{or_second}
 use Rattle.afr_lines.specs.Work.{ended, work}
 use Rattle.afr_model.specs.Healing.{heal_by}
 use Rattle.afr_model.specs.Splits.{IsSplit}
@@ -67,13 +68,9 @@ use Rattle.afr_law_passes.proofs.Standing.{Begun, Gone, Same, Went, same_on, wen
 -- no number above 0 shows where there is none
 no_number : (marks : Marks) → marks.dirty ≡ 0 → ((c : ℕ) → c < 5 → slice_index marks.pending c ≡ 0) → has_number marks ≡ true → ⊥
 no_number marks d none e = (
-    let w = some_yes 5 (λ c. not (slice_index marks.pending c == 0)) (second (not (marks.dirty == 0)) _ (rw d refl) e) in
+    let w = some_yes 5 (λ c. not (slice_index marks.pending c == 0)) (or_second (not (marks.dirty == 0)) _ (rw d refl) e) in
     true≢false (sym w.2 ∙ rw (none w.0 w.1) refl)
     )
-  where
-    second : (x y : Bool) → x ≡ false → (x || y) ≡ true → y ≡ true
-    second true y f k = absurd (true≢false f)
-    second false y f k = k
 
 module _ (p : Plan) (was : Seq Line) (q : Premises p was) (g : Gfid) (kind : Kind) (every : IsEverywhere p was g) (views : ℕ → Option View)
     (seen : (x : ℕ) (view : View) → views x ≡ Some view → (x < p.shape.n) × ShowsWas p was g kind x view) where

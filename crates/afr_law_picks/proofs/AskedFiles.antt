@@ -1,6 +1,5 @@
 -- What the rule is asked for by a read, a write, a cut or a setattr is what its lines say.
 use Rattle.std.proofs.Common.{◌≡◌, ◌∙◌, ℕ, ◌<◌, ◌≤◌, nat_lt, Bool, true, false, List, [], ◌∷◌, Option, None, Some, refl, sym, ap, subst, arith, length}
-use Rattle.std.proofs.lemmas.Bool.Decides.{nat_tests}
 use Rattle.afr_base.specs.Bricks.{added, lowest}
 use Rattle.afr_base.specs.declared.ids.ActorId.{ActorId}
 use Rattle.afr_base.specs.declared.ids.BrickId.{BrickId}
@@ -8,6 +7,7 @@ use Rattle.afr_base.specs.declared.ids.Gfid.{Gfid}
 use Rattle.afr_base.specs.declared.ids.Kind.{Kind}
 use Rattle.afr_base.specs.declared.ids.NameId.{NameId}
 use Rattle.afr_base.specs.declared.ids.Shape.{Shape}
+use Rattle.afr_base.proofs.TestLemmas.{not_below_itself}
 use Rattle.afr_client_read.specs.Job.{kind_of, request_of}
 use Rattle.afr_client_read.specs.Lookup as lookup
 use Rattle.afr_client_read.specs.Lookup.{IsLookup, Lookup, is_asking}
@@ -58,9 +58,6 @@ use Rattle.afr_client_walk.specs.declared.walk.WalkStep.TheVariants.{Arrived, Lo
 use Rattle.afr_law_client.specs.Write.WriteTelling as write_telling
 use Rattle.afr_law_client.specs.Write.WriteTelling.{WriteTells}
 
-pub not_less : (n : ℕ) → nat_lt n n ≡ false
-not_less n = grind (arith, nat_tests)
-
 -- ---- a walk
 -- a command whose whole path is walked
 pub walks_whole : (p : Plan) (c : Command) (w : Walk) (lines : Work) → is_on_name c ≡ false → too_large c ≡ None → w.path ≡ path_of c → WalksFor p c w lines
@@ -85,7 +82,7 @@ kind_at job path read object e =
     ap (λ (n : ℕ). kind_here (command_of job path) (At n object)) e ∙ by job
   where
     test : nat_lt (length path) (length path) ≡ false
-    test = not_less (length path)
+    test = not_below_itself (length path)
 
     by : (job : LookupJob) → kind_here (command_of job path) (At (length path) object) ≡ Some (kind_of job object.what)
     by (Read at len) = rw test refl
@@ -140,7 +137,7 @@ change_asks p c object change lines a b (request.Look g) told took log led named
     ∙ ap (λ (x : Option Kind). asked_at p c g x ((Ask a b (request.Look g) told took, log) ∷ lines)) none
   where
     none : kind_here c (At (length (path_of c)) object) ≡ None
-    none = rw (not_less (length (path_of c)), named) refl
+    none = rw (not_below_itself (length (path_of c)), named) refl
 change_asks p c object change lines a b asked told took log led named = refl
 
 pub write_asks : (picks : Picks) (p : Plan) (c : Command) (m : Write) (lines : Work) (a : ActorId) (b : BrickId) (asked : Request) (heard : Answer) (took : Bool) (log : List Line) (at : ℕ) → IsWrite m.walk m.stage → WriteTells p c m lines

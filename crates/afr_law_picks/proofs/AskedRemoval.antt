@@ -2,6 +2,7 @@
 use Rattle.std.proofs.Common.{◌≡◌, ◌∙◌, ℕ, ◌-◌, ◌<◌, ◌==◌, ◌&&◌, ◌||◌, not, Bool, true, false, List, [], ◌∷◌, Option, None, Some, refl, sym, ap, subst, arith, filter, length, map, if◌then◌else◌}
 use Rattle.std.specs.Prelude.{is_some}
 use Rattle.std.proofs.lemmas.Bool.Decides.{nat_tests}
+use Rattle.std.proofs.lemmas.Bool.{or_right}
 use Rattle.afr_base.specs.Bricks.{IsIn, added, all_five, is_nothing, member, minus}
 use Rattle.afr_base.specs.Majority.{is_majority}
 use Rattle.afr_base.specs.SetLemmas.{none_left}
@@ -12,9 +13,12 @@ use Rattle.afr_base.specs.declared.ids.Kind.{Kind}
 use Rattle.afr_base.specs.declared.ids.Kind.TheVariants.{Names}
 use Rattle.afr_base.specs.declared.ids.NameId.{NameId}
 use Rattle.afr_base.specs.declared.ids.Shape.{Shape}
+use Rattle.afr_base.proofs.TestLemmas.{not_below_itself, same_test}
+use Rattle.afr_base.proofs.RisingLemmas.{has_passing}
 use Rattle.afr_choice.specs.Verdict.{good_copies, holders_of}
 use Rattle.afr_choice.specs.declared.looked.Looked.{Looked}
 use Rattle.afr_discipline.specs.declared.register.Register.{Register}
+use Rattle.afr_discipline.proofs.FirstLemmas.{in_common}
 use Rattle.afr_law_client.proofs.Read.Quiet.{looking_more}
 use Rattle.afr_lines.specs.Areas.{area_for}
 use Rattle.afr_lines.specs.Told.{told_by}
@@ -42,7 +46,6 @@ use Rattle.afr_plan.specs.declared.command.Command.TheVariants as command
 use Rattle.afr_plan.specs.declared.plan.Plan.{Plan}
 use Rattle.afr_law_client.proofs.Entry.Names.{upto_stays}
 use Rattle.afr_law_picks.proofs.Asked.{AsksAs}
-use Rattle.afr_law_picks.proofs.AskedFiles.{not_less}
 use Rattle.afr_law_picks.proofs.Asks.{ask_same}
 use Rattle.afr_law_picks.proofs.Rule.{candidates_are, numbers_of}
 use Rattle.afr_law_picks.specs.Readings.{are_over, area_at, asked_at, holds_lock, kind_here, locked_here}
@@ -53,7 +56,6 @@ use Rattle.afr_client_entry.specs.declared.removing.stage.RemovalEnding.TheVaria
 use Rattle.afr_client_entry.specs.declared.removing.stage.RemovalStage.{RemovalStage}
 use Rattle.afr_client_entry.specs.declared.removing.stage.RemovalStage.TheVariants.{Applying, Beginning, Closing, Listing, Locking, Looking, Posting, Preparing}
 use Rattle.afr_law_client.proofs.Removal.Notes.{look_holds}
-use Rattle.afr_law_client.proofs.Removal.Small.{in_common, in_filter}
 use Rattle.afr_law_client.specs.Removal.RemovalTelling.{AreHeld, During, OnLooks, RemovalGoes, RemovalTells, dir_at, held_in}
 use Rattle.afr_client_transaction.proofs.Requests.{after_outside, noted_is}
 use Rattle.afr_law_client.proofs.Small.{self}
@@ -63,24 +65,15 @@ use Rattle.afr_client_walk.specs.Choosing.{candidates_of}
 -- nobody is left of a set within another
 none_out : (s t : List ℕ) → IsIn s t → is_nothing (minus s t) ≡ true
 none_out [] t h = refl
-none_out (x ∷ xs) t h = go (member t x) (h x (rw (self x) refl)) (none_out xs t (λ y m. h y (either (x == y) (member xs y) m)))
+none_out (x ∷ xs) t h = go (member t x) (h x (rw (self x) refl)) (none_out xs t (λ y m. h y (or_right (x == y) (member xs y) m)))
   where
-    either : (a b : Bool) → b ≡ true → (a || b) ≡ true
-    either true b e = refl
-    either false b e = e
-
     go : (m : Bool) → m ≡ true → is_nothing (minus xs t) ≡ true → is_nothing (if m then minus xs t else x ∷ minus xs t) ≡ true
     go true e ih = ih
     go false e ih = absurd (cc e)
 
 -- of two sets with the same members the same is left
 nothing_same : (s t u : List ℕ) → ((y : ℕ) → member s y ≡ member t y) → is_nothing (minus s u) ≡ is_nothing (minus t u)
-nothing_same s t u same = iff (is_nothing (minus s u)) (is_nothing (minus t u)) (λ e. none_out t u (λ y m. none_left s u e y (same y ∙ m))) (λ e. none_out s u (λ y m. none_left t u e y (sym (same y) ∙ m)))
-  where
-    iff : (x y : Bool) → (x ≡ true → y ≡ true) → (y ≡ true → x ≡ true) → x ≡ y
-    iff true y h k = sym (h refl)
-    iff false true h k = k refl
-    iff false false h k = refl
+nothing_same s t u same = same_test (is_nothing (minus s u)) (is_nothing (minus t u)) (λ e. none_out t u (λ y m. none_left s u e y (same y ∙ m))) (λ e. none_out s u (λ y m. none_left t u e y (sym (same y) ∙ m)))
 
 -- ---- replies by views refuse
 no_posts : (begun done : Bool) (said : Reply) → (if begun then Some (if done then reply.Ok good.Done else reply.Failed) else None) ≡ Some said → is_by_views said ≡ true → ⊥
@@ -171,7 +164,7 @@ module _ (p : Plan) (path : List NameId) (m : Removing) (lines : Work) (a : Acto
 
     members : (y : ℕ) → member (filter both_in all_five) y ≡ member (both_held x.register) y
     members y =
-        in_filter both_in all_five y
+        has_passing both_in all_five y
         ∙ (λ i. (sym (holds.of_name y) i && sym (holds.of_child y) i) && member all_five y)
         ∙ turn (member x.register.held y) (member x.register.second_held y) (member all_five y) (small y)
         ∙ sym (in_common x.register.held x.register.second_held y)
@@ -192,7 +185,7 @@ module _ (p : Plan) (path : List NameId) (m : Removing) (lines : Work) (a : Acto
         ∙ nothing_same (filter both_in all_five) (both_held x.register) x.child.look_asked members
 
     kind_is : kind_here c (At (length path) (dir_at child)) ≡ Some Names
-    kind_is = rw (not_less (length path)) refl
+    kind_is = rw (not_below_itself (length path)) refl
 
     abbrev from : List (ℕ × ℕ)
     from = model.candidates_of p.shape Names (looked_by child more)

@@ -18,7 +18,6 @@ use Rattle.afr_client_entry.specs.declared.stage.EntryStage.{EntryStage}
 use Rattle.afr_client_entry.specs.declared.stage.EntryStage.TheVariants.{Changing, Ending, Removes, Walking}
 use Rattle.afr_client_entry.specs.declared.stage.Found.{Found}
 use Rattle.afr_client_entry.specs.declared.stage.Found.TheVariants.{Fits, Refused, Unread}
-use Rattle.afr_law_client.proofs.Entry.Changing.{begins_at}
 use Rattle.afr_law_client.proofs.Entry.Words.{object_is}
 use Rattle.afr_law_client.specs.Entry.EntryTelling.{EntryTells, TellsIn}
 use Rattle.afr_lines.specs.Told.{told_by}
@@ -49,6 +48,7 @@ use Rattle.afr_law_picks.specs.Picked.{PickedEnd, PickedEntry, PickedStep, Picke
 use Rattle.afr_client_transaction.specs.Progress as transaction
 use Rattle.afr_client_transaction.specs.Progress.{TransactionProgress, fed, is_beginning, is_over, starting}
 use Rattle.afr_client_transaction.specs.declared.stage.Stage.{Stage}
+use Rattle.afr_client_transaction.proofs.ReadLemmas.{begins_at}
 use Rattle.afr_law_client.specs.Tells.{During, OnBegin, Tells}
 use Rattle.afr_client_walk.specs.Choosing.{candidates_of, reader_of}
 use Rattle.afr_client_walk.specs.Walk.{next_in, walk_from, walked}

@@ -36,11 +36,11 @@ use Rattle.afr_law_heard.specs.Works.WorkLaws.{WorkAbout, WorkTellsMore}
 use Rattle.afr_law_heard.specs.Works.WorkTelling.{WorkHears, WorkTells}
 
 -- ---- what was picked
-none_long : (from : List Candidate) → from ≡ [] → 0 < length from → ⊥
+pub none_long : (from : List Candidate) → from ≡ [] → 0 < length from → ⊥
 none_long [] e l = omega (arith, l)
 none_long (x ∷ from) e l = cc e
 
-one_among : (from : List Candidate) (picked : Option BrickId) → IsPickedOf from picked → IsAmong from (reader_of picked)
+pub one_among : (from : List Candidate) (picked : Option BrickId) → IsPickedOf from picked → IsAmong from (reader_of picked)
 one_among from None e = λ l. absurd (none_long from e l)
 one_among from (Some b) e = λ l. e
 
@@ -138,7 +138,7 @@ module _ (stays : StaysSound) (asks_more : AsksMore) (tells_more : WorkTellsMore
   line_asks calls choose asked now kept is hears was answers before = subst (λ (x : List (ℕ × ℕ)). PickAnswers (picks_of calls choose) x kept) (sym (asked_before p c (Ask a b asked (told_by heard) took) log lines refl)) before
 
 -- ---- the laws
-none_asked : (p : Plan) (c : Command) → asked_for_command p c [] ≡ []
+pub none_asked : (p : Plan) (c : Command) → asked_for_command p c [] ≡ []
 none_asked p (command.Rename old new) = refl
 none_asked p c = refl
 

@@ -1,7 +1,5 @@
 -- A rename reads each name at a copy that the rule picked by the last looks of the part to which the line belongs.
 use Rattle.std.proofs.Common.{◌≡◌, ℕ, Bool, true, false, List, [], ◌∷◌, Option, None, Some, refl, sym, ap, subst, length, if◌then◌else◌}
-use Rattle.afr_base.specs.Bricks.{is_nothing, lowest}
-use Rattle.afr_base.specs.Majority.{is_majority}
 use Rattle.afr_base.specs.declared.ids.ActorId.{ActorId}
 use Rattle.afr_base.specs.declared.ids.BrickId.{BrickId}
 use Rattle.afr_base.specs.declared.ids.Gfid.{Gfid}
@@ -12,9 +10,7 @@ use Rattle.afr_client_entry.specs.Entry.{found_by, offered, progress_begun, sett
 use Rattle.afr_client_entry.specs.declared.refusal.Refusal.{Refusal}
 use Rattle.afr_client_entry.specs.declared.stage.Found.{Found}
 use Rattle.afr_client_entry.specs.declared.stage.Found.TheVariants.{Fits, Refused, Unread}
-use Rattle.afr_law_client.proofs.Entry.Changing.{begins_at}
 use Rattle.afr_law_client.specs.Entry.EntryTelling.{OnChange}
-use Rattle.afr_law_client.proofs.Read.Walking.{path_kept}
 use Rattle.afr_lines.specs.Told.{told_by}
 use Rattle.afr_lines.specs.Work.{Work}
 use Rattle.afr_lines.specs.declared.answer.Answer.{Answer}
@@ -48,12 +44,13 @@ use Rattle.afr_client_entry.specs.Renames.Under.{IsUnder, choices_under, found_a
 use Rattle.afr_client_entry.specs.declared.renaming.paths.Paths.{Paths}
 use Rattle.afr_client_entry.specs.declared.renaming.stage.RenameStage.{RenameStage}
 use Rattle.afr_client_entry.specs.declared.renaming.stage.RenameStage.TheVariants.{Ending, Finding, Making, Removing, Walking}
+use Rattle.afr_client_entry.proofs.Renames.RenameLemmas.{walked_path, after_lock}
 use Rattle.afr_law_client.proofs.Rename.Walks.{finds_again, not_all_asked, walks_again}
 use Rattle.afr_law_client.specs.Rename.RenameTelling.{RenameTells, TellsIn}
 use Rattle.afr_client_transaction.specs.Between.{noted_read}
-use Rattle.afr_client_transaction.specs.Progress.{TransactionProgress, answered_by, fed, is_beginning, left, starting}
+use Rattle.afr_client_transaction.specs.Progress.{TransactionProgress, fed, is_beginning, starting}
 use Rattle.afr_client_transaction.specs.declared.stage.Stage.{Stage}
-use Rattle.afr_client_transaction.specs.declared.stage.Stage.TheVariants.{Closing, Locking, Looking as LookingAt}
+use Rattle.afr_client_transaction.proofs.ReadLemmas.{begins_at}
 use Rattle.afr_law_client.specs.Tells.{During, OnBegin, Tells}
 use Rattle.afr_client_walk.specs.Choosing.{reader_of}
 use Rattle.afr_client_walk.specs.Walk.{next_in, walk_from, walked}
@@ -61,15 +58,6 @@ use Rattle.afr_client_walk.specs.Walk as walks
 use Rattle.afr_client_walk.specs.declared.walk.Walk.{Walk}
 use Rattle.afr_client_walk.specs.declared.walk.WalkStep.{WalkStep}
 use Rattle.afr_client_walk.specs.declared.walk.WalkStep.TheVariants as walking
-
--- a lock's answer doesn't end the looks
-not_begun : (told : Told) (at : ℕ) (t : TransactionProgress) → is_beginning (fed Locking told at t).stage ≡ false
-not_begun told at t = go (is_nothing (left Locking (answered_by Locking (lowest (left Locking t)) told at t))) (is_majority (answered_by Locking (lowest (left Locking t)) told at t).register.shape.n (answered_by Locking (lowest (left Locking t)) told at t).asked.locked_on)
-  where
-    go : (o m : Bool) → is_beginning (if o then (if m then LookingAt else Closing) else Locking) ≡ false
-    go true true = refl
-    go true false = refl
-    go false m = refl
 
 -- where an attempt is about to begin its object was locked
 pub locked_there : (p : Plan) (w : Work) (t : TransactionProgress) → Tells p w t → is_beginning t.stage ≡ true → has (locks (object_of t.change)) w ≡ true
@@ -160,7 +148,7 @@ module _ (picks : Picks) (p : Plan) where
         waits = subst (λ (w : Walk). PickedStep picks p w.step w.object.gfid []) (sym k.waits) (walk_begins picks p p.shape (length m.paths.second.path) (walk_from p.shape m.paths.second.path).object)
 
         second : PickedWalk picks p (x Finding).second (the_make (walked chosen heard at m.paths.first).path ((Ask a (next_in m.paths.first).0 (next_in m.paths.first).1 (told_by heard) took, log) ∷ lines))
-        second = subst (λ (names : List NameId). PickedWalk picks p (x Finding).second (the_make names ((Ask a (next_in m.paths.first).0 (next_in m.paths.first).1 (told_by heard) took, log) ∷ lines))) (sym (path_kept chosen heard at m.paths.first))
+        second = subst (λ (names : List NameId). PickedWalk picks p (x Finding).second (the_make names ((Ask a (next_in m.paths.first).0 (next_in m.paths.first).1 (told_by heard) took, log) ∷ lines))) (sym (walked_path chosen heard at m.paths.first))
             (subst (λ (v : Work). PickedWalk picks p (x Finding).second v) (sym none) waits)
 
     walking_on : IsRename m.paths Walking → TellsIn p Walking m.paths lines → next.Ask (next_in m.paths.second).0 (next_in m.paths.second).1 ≡ next.Ask b request → Picked picks (walks.choices_of heard m.paths.second) picked
@@ -180,7 +168,7 @@ module _ (picks : Picks) (p : Plan) where
         go : (done : Bool) → TellsIn p (if done then second_begun (told_by heard) at m.paths t else making_after chosen found heard at m.paths t) m.paths more
             → IsSound m.paths (if done then second_begun (told_by heard) at m.paths t else making_after chosen found heard at m.paths t) → Picked picks (if done then [] else choices_under found (told_by heard) at t) picked
             → PickedRename picks p (if done then second_begun (told_by heard) at m.paths t else making_after chosen found heard at m.paths t) m.paths more
-        go true tells sound answers = λ e. absurd (let f = not_begun (told_by heard) at (turned m.paths t) in cc (e, f))
+        go true tells sound answers = λ e. absurd (let f = after_lock (told_by heard) at (turned m.paths t) in cc (e, f))
         go false tells sound answers = under_more (making_of m.paths m.paths.second.object.gfid) found (against_new heard) (reads_new m.paths) (told_by heard) at t (the_make own more) picked tells.tells.on sound.under answers
 
     pub rename_picked : IsRename m.paths m.stage → RenameTells p c m lines → next_of at m ≡ next.Ask b request → RenameTells p c (answered chosen heard at m) more → IsRename (answered chosen heard at m).paths (answered chosen heard at m).stage

@@ -124,7 +124,7 @@ some_turns_next before (Files k) m b h l = absurd (omega (arith, l))
 some_turns_next before (Turns t) m b h l = (count_within t b).0
 some_turns_next before s m b h l = h (past_head before s refl m)
 
-length-file_names : (k : ℕ) → length (file_names k) ≡ k
+pub length-file_names : (k : ℕ) → length (file_names k) ≡ k
 length-file_names zero = refl
 length-file_names (suc k) = omega (arith, length-file_names k, length-append (file_names k) (file_name (suc k) ∷ []))
 

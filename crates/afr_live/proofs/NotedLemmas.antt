@@ -14,8 +14,6 @@ use Rattle.afr_lines.specs.declared.line.Line.{Line}
 use Rattle.afr_lines.specs.declared.request.Request.TheVariants.{Lock}
 use Rattle.afr_live.specs.Noted.{AreNoted, MayTakeTurn, noted_after, told_at}
 use Rattle.afr_log.specs.Log.{waits_for}
-use Rattle.afr_model.specs.Actors.{IsActor}
-use Rattle.afr_model.specs.Actors.IsActor.{Client, Healer}
 use Rattle.afr_volume.specs.Going.{Goes, IsHappening, Later, Still}
 use Rattle.afr_plan.specs.declared.plan.Plan.{Plan}
 use Rattle.afr_lines.specs.declared.lock.Domain.TheVariants.{Work}
@@ -38,11 +36,6 @@ one_actor (HealBegin x g kind) a b h k = sym (eqb-true x.0 b k) ∙ eqb-true x.0
 one_actor (End x said) a b h k = sym (eqb-true x.0 b k) ∙ eqb-true x.0 a h
 one_actor (HealEnd x g kind said) a b h k = sym (eqb-true x.0 b k) ∙ eqb-true x.0 a h
 one_actor (Event event) a b h k = absurd (true≢false (sym h))
-
--- the numbers of actors
-pub low_actor : (p : Plan) (a : ℕ) → length p.clients ≤ 16 → length p.healers ≤ 3 → IsActor p a → a < 20
-low_actor p a clients healers (Client low high) = omega arith
-low_actor p a clients healers (Healer low high) = omega arith
 
 -- ---- what is noted
 zeros : (n a : ℕ) → ◌≡◌ {A = ℕ} (get_or (replicate n 0) a 0) 0

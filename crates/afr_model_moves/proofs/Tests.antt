@@ -9,6 +9,7 @@ use Rattle.afr_base.specs.declared.ids.Kind.{Kind}
 use Rattle.afr_base.specs.declared.ids.Kind.TheVariants.{Bytes, Attrs, Names}
 use Rattle.afr_base.specs.declared.ids.What.{What}
 use Rattle.afr_base.specs.declared.ids.What.TheVariants.{File, Dir}
+use Rattle.afr_base.proofs.TestLemmas.{below_or_last}
 use Rattle.afr_model_moves.specs.Cells.{what_code}
 use Rattle.afr_model_moves.specs.Register.{Finish, Opening, Piece, Step, WorkLocks, all, same_step}
 use Rattle.afr_model_moves.specs.Sets.{any, with, without}
@@ -161,19 +162,16 @@ some_yes (suc n) p h = elim (or_cases (p n) (any n p) h) [
   | inr rest ↦ (let w = some_yes n p rest in (w.0, omega (arith, w.1), w.2))
 ]
 
-cases_last : (k n : ℕ) → k < suc n → (k < n) ⊎ (k ≡ n)
-cases_last k n l = grind arith
-
 pub some_no : (n : ℕ) (p : ℕ → Bool) (s : ℕ) → s < n → p s ≡ true → any n p ≡ true
 some_no zero p s l h = absurd (omega arith)
-some_no (suc n) p s l h = elim (cases_last s n l) [
+some_no (suc n) p s l h = elim (below_or_last s n l) [
   | inl before ↦ or_right (p n) (any n p) (some_no n p s before h)
   | inr here ↦ or_left (p n) (any n p) (subst (λ (k : ℕ). p k ≡ true) here h)
 ]
 
 pub all_yes : (n : ℕ) (p : ℕ → Bool) → all n p ≡ true → (x : ℕ) → x < n → p x ≡ true
 all_yes zero p h x l = absurd (omega arith)
-all_yes (suc n) p h x l = elim (cases_last x n l) [
+all_yes (suc n) p h x l = elim (below_or_last x n l) [
   | inl before ↦ all_yes n p (and_right (p n) (all n p) h) x before
   | inr here ↦ subst (λ (k : ℕ). p k ≡ true) (sym here) (and_left (p n) (all n p) h)
 ]

@@ -1,6 +1,5 @@
 -- The discipline in full over a list of lines, the newest first: each line is judged by those before it.
-use Rattle.std.specs.Prelude.{ℕ, Bool, length, Some}
-use Rattle.std.specs.Prelude.{List as Seq}
+use Rattle.std.specs.Prelude.{ℕ, Bool, length, Some, List as Seq}
 use Rattle.afr_base.specs.declared.ids.Kind.{Kind}
 use Rattle.afr_lines.specs.Log.{EachLine}
 use Rattle.afr_lines.specs.declared.line.Line.{Line}

@@ -6,13 +6,12 @@ use Rattle.std.proofs.lemmas.Bool.Decides.{nat_tests}
 use Rattle.std.proofs.lemmas.List.{map-append, reverse-append}
 use Rattle.std.proofs.lemmas.List.Sums.{sum_by-cons}
 use Rattle.afr_plan_read.specs.Counts.{counted, head_lines, IsCounted}
-use Rattle.afr_plan.specs.Rules.{may_stand, bricks_of, is_client, is_command, is_listing, is_healer, is_round, is_fault, is_event, is_order, last_at, write_end, read_len, is_beyond, is_disordered, passes_total}
+use Rattle.afr_plan.specs.Rules.{may_stand, bricks_of, is_client, is_command, is_listing, is_healer, is_round, is_fault, is_event, is_order, last_at, write_end, read_len, is_beyond, is_disordered, passes_total, is_fault_of}
 use Rattle.afr_plan.specs.Said.{Said, Afr, Volume, Files, Turns, Client, Command, Healer, Round, Faulty, At, Go, End}
 use Rattle.afr_plan.specs.Action.{Action}
 use Rattle.afr_plan.specs.Action as action
 use Rattle.std.proofs.lemmas.List.Folds.{list_any-append}
 use Rattle.afr_plan_read.specs.FaultPlaces.{is_place, place_at, ArePlaces, with_place}
-use Rattle.afr_plan.specs.Rules.{is_fault_of}
 use Rattle.afr_plan_line.specs.Seen.{seen}
 use Rattle.afr_plan_read.specs.declared.order.FaultPlace.{FaultPlace}
 use Rattle.afr_plan_line.specs.declared.spoken.Spoken.{Spoken}

@@ -1,6 +1,5 @@
 //! Which words may begin a line after which others.
 ghost use Rattle.std.specs.Prelude.{◌≡◌, ◌∷◌, [], codes, length, reverse, map, take_while, not, ◌==◌};
-ghost use Rattle.std.specs.Str.{bytes_eq};
 ghost use Rattle.afr_plan.specs.Rules.{is_one_of, words_after};
 ghost use Rattle.afr_plan.specs.Rules as rule;
 ghost use Rattle.afr_plan.specs.Judging as judging;

@@ -4,6 +4,7 @@ use Rattle.std.specs.BTreeMap.Range.{range_contains}
 use Rattle.std.specs.List.{AllByRecursion, filter}
 use Rattle.std.specs.Option.{IfSome}
 use Rattle.std.specs.declared.ops.Bound.TheVariants.{Included, Excluded}
+use Rattle.std.proofs.lemmas.Bool.{or_right}
 use Rattle.afr_base.specs.declared.ids.Gfid.{Gfid}
 use Rattle.afr_lines.specs.Locks.{conflicts, first_conflict, same_domain}
 use Rattle.afr_lines.specs.declared.lock.Domain.{Domain}
@@ -74,10 +75,6 @@ module _ {A : Type 0} (overlap : A → A → Bool) (wanted : HeldLock A) where
 nothing_kept : {X : Type 0} (p : X → Bool) → ((x : X) → p x ≡ false) → (xs : List X) → filter p xs ≡ []
 nothing_kept p none [] = refl
 nothing_kept p none (x ∷ xs) = rw (none x) (nothing_kept p none xs)
-
-or_right : (a b : Bool) → b ≡ true → (a || b) ≡ true
-or_right true b h = refl
-or_right false b h = h
 
 pub last_two : (a b c : Bool) → (a && b && c) ≡ true → (b ≡ true) × (c ≡ true)
 last_two true true true e = (refl, refl)

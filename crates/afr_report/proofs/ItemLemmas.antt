@@ -4,12 +4,12 @@ use Rattle.std.proofs.lemmas.Bool.Decides.{nat_tests}
 use Rattle.afr_base.specs.declared.ids.Gfid.{Gfid}
 use Rattle.afr_base.specs.declared.ids.What.{What}
 use Rattle.afr_lines.specs.Log.{from_oldest}
-use Rattle.afr_lines.specs.Work.{ended, work}
+use Rattle.afr_lines.specs.Work.{ended}
 use Rattle.afr_lines.specs.declared.line.Line.{Line}
-use Rattle.afr_lines.specs.declared.line.Line.TheVariants.{Ask, Begin, End, Event, HealBegin, HealEnd}
-use Rattle.afr_model.specs.Crawl.{crawler, given_by, items_of, list_at, lists_by}
+use Rattle.afr_model.specs.Crawl.{items_of, list_at, lists_by}
 use Rattle.afr_plan.specs.declared.plan.Plan.{Plan}
 use Rattle.afr_report.specs.Workers.{items_given, length_of}
+use Rattle.afr_volume.proofs.ListLemmas.{many_lists}
 
 abbrev Listed : Type 0
 Listed = Option (List (Gfid × What))
@@ -67,20 +67,6 @@ first_all rounds (list ∷ older) h = by (nat_lt (length older) rounds) refl ∙
     whole None rest = omega (arith, rest)
     whole (Some items) rest = omega (arith, rest, length-append items (items_of older))
 
--- there are as many lists as ended rounds
-lists_length : (p : Plan) (log : List Line) → length (lists_by p log) ≡ ended 17 log
-lists_length p [] = refl
-lists_length p (Ask x b asked told took ∷ older) = lists_length p older
-lists_length p (Begin x change ∷ older) = lists_length p older
-lists_length p (HealBegin x g kind ∷ older) = lists_length p older
-lists_length p (End x said ∷ older) = by (x.0 == 17) (lists_length p older)
-  where
-    by : (own : Bool) → length (lists_by p older) ≡ ended 17 older → length (if own then given_by p (work crawler older) ∷ lists_by p older else lists_by p older) ≡ (if own then ended 17 older + 1 else ended 17 older)
-    by true rest = omega (arith, rest)
-    by false rest = rest
-lists_length p (HealEnd x g kind said ∷ older) = lists_length p older
-lists_length p (Event event ∷ older) = lists_length p older
-
 -- the items of the lists of all rounds
 pub all_items : (p : Plan) (log : List Line) (rounds : ℕ) → rounds ≡ ended 17 log → first_items rounds (lists_by p log) ≡ items_given p log
-all_items p log rounds e = first_all rounds (lists_by p log) (omega (arith, e, lists_length p log))
+all_items p log rounds e = first_all rounds (lists_by p log) (omega (arith, e, many_lists p log))

@@ -8,6 +8,7 @@ use Rattle.std.proofs.lemmas.Bool.Decides.{nat_tests}
 use Rattle.std.proofs.lemmas.Cmp.{same_from_slice_cmp}
 use Rattle.std.proofs.lemmas.List.Sorted.{IsPermutation-map, sum_by-IsPermutation}
 use Rattle.std.proofs.lemmas.List.Sums.{sum_by-cons}
+use Rattle.std.proofs.lemmas.Bool.{not-false}
 use Rattle.afr_model.specs.ReportReplies.{in_order, placed, precedes}
 
 -- ---- an order of texts
@@ -121,9 +122,6 @@ one_order (s ∷ l) (t ∷ m) a b same = by (precedes s t) (precedes t s) refl r
     by false q h k more = absurd (omega (arith, same t, counted_itself t m, counted_ahead t s l h a))
 
 -- ---- a sorted list
-not_false : (b : Bool) → not b ≡ false → b ≡ true
-not_false true h = refl
-not_false false h = absurd (cc h)
 
 rest_sorted : {X : Type 0} (lt : X → X → Bool) (x : X) (l : List X) → IsSortedBy lt (x ∷ l) → IsSortedBy lt l
 rest_sorted lt x l h k d low high = at (k + 1) (omega arith) (h (k + 1) d (omega arith) (omega (arith, high)))
@@ -141,7 +139,7 @@ module _ {X : Type 0} (text : X → List ℕ) where
   sorted_ascends (x ∷ []) h = tt
   sorted_ascends (x ∷ y ∷ more) h =
       let first : is_lt (slice_cmp nat_cmp (text y) (text x)) ≡ false = h 0 x (omega arith) (omega arith) in
-      (not_false (precedes (text x) (text y)) (sym (is_below (text y) (text x)) ∙ first), sorted_ascends (y ∷ more) (rest_sorted (λ x y. is_lt (slice_cmp nat_cmp (text x) (text y))) x (y ∷ more) h))
+      (not-false (precedes (text x) (text y)) (sym (is_below (text y) (text x)) ∙ first), sorted_ascends (y ∷ more) (rest_sorted (λ x y. is_lt (slice_cmp nat_cmp (text x) (text y))) x (y ∷ more) h))
 
   pub sorted_in_order : (items sorted : List X) → IsPermutation items sorted → IsSortedBy (λ x y. is_lt (slice_cmp nat_cmp (text x) (text y))) sorted → map text sorted ≡ in_order (map text items)
   sorted_in_order items sorted moved order = one_order (map text sorted) (in_order (map text items)) (sorted_ascends sorted order) (order_ascends (map text items))

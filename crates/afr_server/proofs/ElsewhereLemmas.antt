@@ -25,8 +25,7 @@ use Rattle.afr_plan.specs.declared.plan.Plan.{Plan}
 use Rattle.afr_lines.specs.Locks.{is_lock}
 use Rattle.afr_lines.specs.declared.lock.Domain.{Domain}
 use Rattle.afr_lines.specs.declared.lock.HeldLock.{HeldLock}
-use Rattle.afr_session.specs.Calls.{Does, only}
-use Rattle.afr_session.specs.Calls.{Meet}
+use Rattle.afr_session.specs.Calls.{Does, only, Meet}
 use Rattle.afr_session.specs.Links.{Links, link_of, met}
 use Rattle.afr_session.specs.declared.link.Link.{Link}
 use Rattle.afr_server.proofs.LinkLemmas.{link_line}

@@ -5,7 +5,7 @@ use Rattle.std.specs.List.{filter}
 use Rattle.afr_base.specs.declared.ids.ActorId.{ActorId}
 use Rattle.afr_lines.specs.Locks.{without_owner, is_lock}
 use Rattle.afr_lines.specs.declared.lock.HeldLock.{HeldLock}
-use Rattle.afr_session.specs.Links.{Links, link_of}
+use Rattle.afr_session.specs.Links.{Links, link_of, joined, met, opened_once, opens}
 use Rattle.afr_lines.specs.declared.request.Area.TheVariants.{Range, Name}
 use Rattle.afr_lines.specs.declared.request.Request.{Request}
 use Rattle.afr_lines.specs.declared.request.Request.TheVariants.{Lock, Unlock}
@@ -18,7 +18,6 @@ use Rattle.afr_range_locks.specs.Locks.{range_lock, same_range}
 use Rattle.afr_range_locks.specs.declared.ranges.ObjectRange.{ObjectRange}
 use Rattle.afr_session.specs.Calls.{Does, only}
 use Rattle.afr_session.specs.Calls.Call.{Cut, End, Join, Start, Stop}
-use Rattle.afr_session.specs.Links.{joined, met, opened_once, opens}
 use Rattle.afr_session.specs.declared.link.Link.{Link}
 use Rattle.afr_server.specs.Outcome.{link_served}
 use Rattle.afr_server.specs.Carried.{joined_by, names_after, ranges_after}

@@ -14,8 +14,7 @@ use Rattle.afr_lines.specs.Places.{opens, place_of}
 use Rattle.afr_model.specs.Sessions.{ends_session, event_ends, is_joined, is_linked, linked_after}
 use Rattle.afr_plan.specs.declared.plan.Plan.{Plan}
 use Rattle.afr_session.specs.Calls.{only}
-use Rattle.afr_session.specs.Links.{ended, met, opened_once}
-use Rattle.afr_session.specs.Links.{opens as opens_link}
+use Rattle.afr_session.specs.Links.{ended, met, opened_once, opens as opens_link}
 use Rattle.afr_session.specs.declared.link.Link.{Link}
 use Rattle.afr_server.specs.Log.{IsLinked}
 use Rattle.afr_server.specs.Outcome.{link_served}

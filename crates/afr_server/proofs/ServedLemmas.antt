@@ -136,7 +136,7 @@ opens_none true m l f = refl
 opens_none false m l true = refl
 opens_none false m l false = refl
 
-opens_now : (j m l : Bool) → (j ≡ true → (m && l) ≡ true) → (j || (true && true && m && l)) ≡ (m && l)
+pub opens_now : (j m l : Bool) → (j ≡ true → (m && l) ≡ true) → (j || (true && true && m && l)) ≡ (m && l)
 opens_now true m l h = sym (h refl)
 opens_now false m l h = refl
 

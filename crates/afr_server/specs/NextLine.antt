@@ -16,8 +16,7 @@ use Rattle.afr_model.specs.Tables.{held_before, keeps_bytes}
 use Rattle.afr_object.specs.Tables.{opening}
 use Rattle.afr_object.specs.declared.change.Load.{Load}
 use Rattle.afr_plan.specs.declared.plan.Plan.{Plan}
-use Rattle.afr_session.specs.Calls.{Does}
-use Rattle.afr_session.specs.Calls.{Meet}
+use Rattle.afr_session.specs.Calls.{Does, Meet}
 use Rattle.afr_session.specs.Links.{fresh_link, link_of}
 use Rattle.afr_server.specs.declared.server.Served.{Served}
 use Rattle.afr_server.specs.Carried.{Brings}

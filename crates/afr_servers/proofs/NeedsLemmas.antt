@@ -27,7 +27,7 @@ use Rattle.afr_plan.specs.declared.plan.Plan.{Plan}
 use Rattle.afr_server.proofs.CoveredLemmas.{same_change, under_locks}
 use Rattle.afr_server.proofs.LinkLemmas.{joined_reached}
 use Rattle.afr_server.proofs.OpeningLemmas.{can_serve, carried_took}
-use Rattle.afr_server.proofs.ServedLemmas.{same_outcome}
+use Rattle.afr_server.proofs.ServedLemmas.{same_outcome, opens_now}
 use Rattle.afr_server.specs.declared.server.Served.{Served}
 use Rattle.afr_server.specs.Carried.{Brings}
 use Rattle.afr_server.specs.Covered.{change_with}
@@ -53,10 +53,6 @@ opens_none : (j m l f : Bool) → (j || (f && false && m && l)) ≡ j
 opens_none true m l f = refl
 opens_none false m l true = refl
 opens_none false m l false = refl
-
-opens_now : (j m l : Bool) → (j ≡ true → (m && l) ≡ true) → (j || (true && true && m && l)) ≡ (m && l)
-opens_now true m l h = sym (h refl)
-opens_now false m l h = refl
 
 carries : CarriesByTheLog
 carries p log a true epochs b r servers small v found opened s h = carried_by p log a b r (has_session (epoch_at b.0 epochs) a s) s one live

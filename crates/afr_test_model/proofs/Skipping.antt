@@ -7,6 +7,7 @@ use Rattle.afr_base.specs.Bricks.{is_nothing, member, minus, passes_below, from_
 use Rattle.afr_base.specs.Majority.{is_majority}
 use Rattle.afr_base.specs.declared.ids.Gfid.{Gfid}
 use Rattle.afr_base.specs.declared.ids.NameId.{NameId}
+use Rattle.afr_base.proofs.TestLemmas.{or_more, or_second}
 use Rattle.afr_lines.specs.Areas.{object_of_area}
 use Rattle.afr_lines.specs.Overlap.{same_area}
 use Rattle.afr_lines.specs.Work.{Work}
@@ -22,11 +23,6 @@ use Rattle.afr_model.specs.Standing.{asking, getting, locks_area}
 use Rattle.afr_test_model.proofs.Means.{all_in, fails}
 use Rattle.afr_test_model.proofs.Words.{object}
 
--- of two, the first of which fails
-or_right : (one another : Bool) → one ≡ false → (one || another) ≡ true → another ≡ true
-or_right false another first either = either
-or_right true another first either = absurd (cc first)
-
 -- ---- objects
 -- the numbers of the objects that a work looked at
 abbrev pub look_number : Line → List ℕ → List ℕ
@@ -38,14 +34,9 @@ abbrev pub look_numbers : Work → List ℕ
 look_numbers [] = []
 look_numbers (x ∷ w) = look_number x.0 (look_numbers w)
 
--- either one, or more than the other
-either_more : (one another more : Bool) → (another ≡ true → more ≡ true) → (one || another) ≡ true → (one || more) ≡ true
-either_more true another more grows either = refl
-either_more false another more grows either = grows either
-
 -- a line that looks at an object has its number
 numbered_step : (line : Line) (of : Gfid) (s : List ℕ) (rest : Bool) → (rest ≡ true → member s of.0 ≡ true) → (looks_at of line || rest) ≡ true → member (look_number line s) of.0 ≡ true
-numbered_step (Ask a b (request.Look g) told took) of s rest more either = either_more (g.0 == of.0) rest (member s of.0) more either
+numbered_step (Ask a b (request.Look g) told took) of s rest more either = or_more (g.0 == of.0) rest (member s of.0) more either
 numbered_step line of s rest more either = more either
 
 -- so has a work that looks at it
@@ -69,7 +60,7 @@ is_looked_at n w number = has (locks (object number)) w || passes_below n (membe
 -- where that is so of each object that a line looks at, every brick was looked at
 pub all_looked : (n : ℕ) (w : Work) → list_all (is_looked_at n w) (look_numbers w) ≡ true → IsLooked n w
 all_looked n w all g looks free b below =
-    from_table n (member (among (looking g) w)) (or_right (has (locks g) w) (passes_below n (member (among (looking g) w))) free (from_members (is_looked_at n w) (look_numbers w) all g.0 (numbered g w looks))) b below
+    from_table n (member (among (looking g) w)) (or_second (has (locks g) w) (passes_below n (member (among (looking g) w))) free (from_members (is_looked_at n w) (look_numbers w) all g.0 (numbered g w looks))) b below
 
 -- ---- areas
 -- the areas that a work locked
@@ -139,8 +130,8 @@ is_locked_at n w area = is_whole area || (passes_below n (member (among (asking 
 pub all_locked : (n : ℕ) (w : Work) → list_all (is_locked_at n w) (lock_areas w) ≡ true → (area : Area) → is_whole area ≡ false → has (locks_area area) w ≡ true → IsLocked n w area
 all_locked n w each area part locked = record {
   all = λ b below. from_table n (member (among (asking area) w)) (and_left _ _ both) b below;
-  looked = λ most b got. all_in (among (getting area) w) (among (looking (object_of_area area)) w) (or_right (not (is_majority n (among (getting area) w))) _ (ap not most) (and_right _ _ both)) b got;
+  looked = λ most b got. all_in (among (getting area) w) (among (looking (object_of_area area)) w) (or_second (not (is_majority n (among (getting area) w))) _ (ap not most) (and_right _ _ both)) b got;
 }
   where
     both : (passes_below n (member (among (asking area) w)) && (not (is_majority n (among (getting area) w)) || is_nothing (minus (among (getting area) w) (among (looking (object_of_area area)) w)))) ≡ true
-    both = or_right (is_whole area) _ part (from_areas (is_locked_at n w) w each area locked)
+    both = or_second (is_whole area) _ part (from_areas (is_locked_at n w) w each area locked)

@@ -1,6 +1,6 @@
 -- The names of a text with their entries are printed as the text has them.
 use Rattle.std.proofs.Common.{◌≡◌, ◌⊎◌, inl, inr, ℕ, List, [], ◌∷◌, ◌++◌, ◌==◌, ◌||◌, Option, Some, None, refl, sym, ap, subst, ◌∙◌, Bool, true, false, not, if◌then◌else◌, filter, map}
-use Rattle.std.proofs.lemmas.Bool.{eqb-true, eq-eqb}
+use Rattle.std.proofs.lemmas.Bool.{eqb-true, eq-eqb, or_right, or_left, or_cases}
 use Rattle.afr_base.specs.declared.ids.NameId.{NameId}
 use Rattle.afr_object.specs.declared.entry.Entry.{Entry}
 use Rattle.afr_model.specs.ReportReplies.{in_order, name_texts}
@@ -13,29 +13,17 @@ use Rattle.afr_trace_read.specs.Fit.{AreListed, IsNameOf, IsNotAmong}
 use Rattle.afr_trace_read.proofs.NamesLaws.{AreRising, listed, texts_of}
 use Rattle.afr_trace_read.proofs.OrderLaws.{Rises, RisesAfter, all_apart, order_rises}
 
-either_is : (a b : Bool) → (a || b) ≡ true → (a ≡ true) ⊎ (b ≡ true)
-either_is true b e = inl refl
-either_is false b e = inr e
-
-first_is : (a b : Bool) → a ≡ true → (a || b) ≡ true
-first_is true b e = refl
-first_is false b e = absurd (cc e)
-
-second_is : (a b : Bool) → b ≡ true → (a || b) ≡ true
-second_is true b e = refl
-second_is false b e = e
-
 -- ---- the names that were told
 told_name : (p : Plan) (last : Option NameId) (names : List NameId) (n : NameId) → AreRising p last names → is_told names n ≡ true → IsNameOf p n
 told_name p last [] n r e = absurd (cc e)
-told_name p last (m ∷ names) n r e = elim (either_is (m.0 == n.0) (is_told names n) e) [
+told_name p last (m ∷ names) n r e = elim (or_cases (m.0 == n.0) (is_told names n) e) [
   | inl same ↦ subst (λ (k : ℕ). IsNameOf p (record { 0 = k })) (eqb-true m.0 n.0 same) r.0
   | inr later ↦ told_name p (Some m) names n r.2 later
 ]
 
 told_in : (p : Plan) (names : List NameId) (n : NameId) → is_told names n ≡ true → In (bytes_of_name p n) (texts_of p names)
 told_in p [] n e = absurd (cc e)
-told_in p (m ∷ names) n e = elim (either_is (m.0 == n.0) (is_told names n) e) [
+told_in p (m ∷ names) n e = elim (or_cases (m.0 == n.0) (is_told names n) e) [
   | inl same ↦ inl (ap (λ (k : ℕ). bytes_of_name p (record { 0 = k })) (sym (eqb-true m.0 n.0 same)))
   | inr later ↦ inr (told_in p names n later)
 ]
@@ -73,7 +61,7 @@ told_from p names t (x ∷ l) h = by (is_told names x.0) refl h (told_from p nam
 
 listed_in : (p : Plan) (names : List NameId) (n : NameId) (l : List (NameId × Entry)) → is_listed l n ≡ true → is_told names n ≡ true → In (bytes_of_name p n) (name_texts p.words (told_of names l))
 listed_in p names n [] e told = absurd (cc e)
-listed_in p names n (x ∷ l) e told = elim (either_is (x.0.0 == n.0) (is_listed l n) e) [
+listed_in p names n (x ∷ l) e told = elim (or_cases (x.0.0 == n.0) (is_listed l n) e) [
   | inl same ↦ here (eqb-true x.0.0 n.0 same)
   | inr later ↦ more (is_told names x.0) (listed_in p names n l later told)
 ]
@@ -130,10 +118,10 @@ new_off l n (m ∷ names) e = by (is_listed l m) refl (new_off l n names e)
 -- ---- both
 both_listed : (p : Plan) (names : List NameId) (l rest : List (NameId × Entry)) → AreListed p (told_of names rest) → ((n : NameId) → is_listed rest n ≡ true → is_listed l n ≡ true) → AreListed p (new_of l names) → AreListed p (told_of names rest ++ new_of l names)
 both_listed p names l [] a sub new = new
-both_listed p names l (x ∷ rest) a sub new = by (is_told names x.0) a (λ k. both_listed p names l rest k (λ n e. sub n (second_is (x.0.0 == n.0) (is_listed rest n) e)) new)
+both_listed p names l (x ∷ rest) a sub new = by (is_told names x.0) a (λ k. both_listed p names l rest k (λ n e. sub n (or_right (x.0.0 == n.0) (is_listed rest n) e)) new)
   where
     apart : (m : List (NameId × Entry)) → IsNotAmong x.0 m → IsNotAmong x.0 (m ++ new_of l names)
-    apart [] k = new_off l x.0 names (sub x.0 (first_is (x.0.0 == x.0.0) (is_listed rest x.0) (eq-eqb x.0.0 x.0.0 refl)))
+    apart [] k = new_off l x.0 names (sub x.0 (or_left (x.0.0 == x.0.0) (is_listed rest x.0) (eq-eqb x.0.0 x.0.0 refl)))
     apart (y ∷ m) k = (k.0, apart m k.1)
 
     by : (b : Bool) → AreListed p (if b then x ∷ told_of names rest else told_of names rest) → (AreListed p (told_of names rest) → AreListed p (told_of names rest ++ new_of l names)) → AreListed p ((if b then x ∷ told_of names rest else told_of names rest) ++ new_of l names)
@@ -169,7 +157,7 @@ entries_from p l names t h = elim (in_either p t (told_of names l) (new_of l nam
 
 new_in : (p : Plan) (l : List (NameId × Entry)) (n : NameId) (names : List NameId) → is_listed l n ≡ false → is_told names n ≡ true → In (bytes_of_name p n) (name_texts p.words (new_of l names))
 new_in p l n [] f told = absurd (cc told)
-new_in p l n (m ∷ names) f told = elim (either_is (m.0 == n.0) (is_told names n) told) [
+new_in p l n (m ∷ names) f told = elim (or_cases (m.0 == n.0) (is_told names n) told) [
   | inl same ↦ here (eqb-true m.0 n.0 same)
   | inr later ↦ more (not (is_listed l m)) (new_in p l n names f later)
 ]
@@ -193,8 +181,8 @@ entry_in p l names n told = by (is_listed l n) refl
 entries_in : (p : Plan) (l : List (NameId × Entry)) (names rest : List NameId) → ((n : NameId) → is_told rest n ≡ true → is_told names n ≡ true) → (t : List ℕ) → In t (texts_of p rest) → In t (name_texts p.words (with_entries l names))
 entries_in p l names [] sub t h = absurd h
 entries_in p l names (m ∷ rest) sub t h = elim h [
-  | inl e ↦ subst (λ (u : List ℕ). In u (name_texts p.words (with_entries l names))) (sym e) (entry_in p l names m (sub m (first_is (m.0 == m.0) (is_told rest m) (eq-eqb m.0 m.0 refl))))
-  | inr later ↦ entries_in p l names rest (λ n e. sub n (second_is (m.0 == n.0) (is_told rest n) e)) t later
+  | inl e ↦ subst (λ (u : List ℕ). In u (name_texts p.words (with_entries l names))) (sym e) (entry_in p l names m (sub m (or_left (m.0 == m.0) (is_told rest m) (eq-eqb m.0 m.0 refl))))
+  | inr later ↦ entries_in p l names rest (λ n e. sub n (or_right (m.0 == n.0) (is_told rest n) e)) t later
 ]
 
 rises_after : (p : Plan) (name : NameId) (names : List NameId) → AreRising p (Some name) names → RisesAfter (bytes_of_name p name) (texts_of p names)

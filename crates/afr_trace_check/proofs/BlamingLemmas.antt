@@ -1,13 +1,13 @@
 -- The test of a post-op passes exactly where it has its grounds.
 use Rattle.std.proofs.Common.{◌≡◌, ◌↔◌, ◌∙◌, ℕ, ◌==◌, ◌&&◌, not, Bool, true, false, List, Option, Some, None, refl, sym, ap, arith}
-use Rattle.std.proofs.lemmas.Bool.{eqb-true}
-use Rattle.std.proofs.lemmas.Bool.Decides.{nat_tests}
+use Rattle.std.proofs.lemmas.Bool.{eqb-true, and_from, not-true}
 use Rattle.afr_base.specs.Bricks.{IsIn, and_left, and_right, below, is_nothing, member, minus, same, same_is}
 use Rattle.afr_base.specs.Kinds.{same_kind}
 use Rattle.afr_base.specs.SetLemmas.{no_member, member_minus, none_left, same_self}
 use Rattle.afr_base.specs.declared.ids.Gfid.{Gfid}
 use Rattle.afr_base.specs.declared.ids.Kind.{Kind}
 use Rattle.afr_base.specs.declared.ids.Shape.{Shape}
+use Rattle.afr_base.proofs.TestLemmas.{same_number}
 use Rattle.afr_choice.specs.declared.looked.Looked.{Looked}
 use Rattle.afr_lines.specs.Areas.{kind_for}
 use Rattle.afr_lines.specs.Work.{Work}
@@ -52,16 +52,6 @@ all_seven false b c d e f g h = absurd (cc)
 seven_true : (a b c d e f g : Bool) → a ≡ true → b ≡ true → c ≡ true → d ≡ true → e ≡ true → f ≡ true → g ≡ true → (a && b && c && d && e && f && g) ≡ true
 seven_true a b c d e f g ha hb hc hd he hf hg = rw (ha, hb, hc, hd, he, hf, hg) refl
 
-two_true : (a b : Bool) → a ≡ true → b ≡ true → (a && b) ≡ true
-two_true a b ha hb = rw (ha, hb) refl
-
-eq_self : (n : ℕ) → (n == n) ≡ true
-eq_self n = grind (arith, nat_tests)
-
-not_true : (b : Bool) → not b ≡ true → b ≡ false
-not_true true h = absurd (cc h)
-not_true false h = refl
-
 module _ (p : Plan) (attempt : ℕ) (g : Gfid) (kind : Kind) (missed : List ℕ) (b : ℕ) (w : Work) (older : List Line) where
   by_change : (at : Option ℕ) (o : Option Change) → begun_by w ≡ at → change_by w ≡ o → is_position at attempt ≡ true → is_change_of o g kind ≡ true → not (member (over (closing attempt) older) b) ≡ true
       → member (over (doing attempt) older) b ≡ true → suffices p.shape kind (looked_by g (after_last (locks_object g) w)) (over (doing attempt) older) ≡ true → same missed (minus (below p.shape.n) (over (doing attempt) older)) ≡ true
@@ -72,7 +62,7 @@ module _ (p : Plan) (attempt : ℕ) (g : Gfid) (kind : Kind) (missed : List ℕ)
     is_change = ho;
     object = gfid_same g (object_of change) (eqb-true g.0 (object_of change).0 (and_left (g.0 == (object_of change).0) (same_kind kind (kind_for change)) of_it));
     counted = same_kind_yes kind (kind_for change) (and_right (g.0 == (object_of change).0) (same_kind kind (kind_for change)) of_it);
-    once = not_true (member (over (closing attempt) older) b) once;
+    once = not-true (member (over (closing attempt) older) b) once;
     did = did;
     enough = enough;
     others = same_is missed (minus (below p.shape.n) (over (doing attempt) older)) others;
@@ -90,11 +80,11 @@ module _ (p : Plan) (attempt : ℕ) (g : Gfid) (kind : Kind) (missed : List ℕ)
 
   passes : HasGrounds p attempt g kind missed b w older → has_grounds p attempt g kind missed b w older ≡ true
   passes s =
-      let object : (g.0 == (object_of s.change).0) ≡ true = ap (λ (h : Gfid). g.0 == h.0) (sym s.object) ∙ eq_self g.0 in
+      let object : (g.0 == (object_of s.change).0) ≡ true = ap (λ (h : Gfid). g.0 == h.0) (sym s.object) ∙ same_number g.0 in
       let counted : same_kind kind (kind_for s.change) ≡ true = ap (λ (k : Kind). same_kind kind k) (sym s.counted) ∙ same_kind_self kind in
       seven_true (is_position (begun_by w) attempt) (is_change_of (change_by w) g kind) (not (member (over (closing attempt) older) b)) (member (over (doing attempt) older) b) (suffices p.shape kind (looked_by g (after_last (locks_object g) w)) (over (doing attempt) older))
-      (same missed (minus (below p.shape.n) (over (doing attempt) older))) (is_nothing (minus missed (among refusing (since asks_lock w)))) (ap (λ (o : Option ℕ). is_position o attempt) s.begun ∙ eq_self attempt)
-      (ap (λ (o : Option Change). is_change_of o g kind) s.is_change ∙ two_true (g.0 == (object_of s.change).0) (same_kind kind (kind_for s.change)) object counted) (ap (λ (f : Bool). not f) s.once) s.did s.enough
+      (same missed (minus (below p.shape.n) (over (doing attempt) older))) (is_nothing (minus missed (among refusing (since asks_lock w)))) (ap (λ (o : Option ℕ). is_position o attempt) s.begun ∙ same_number attempt)
+      (ap (λ (o : Option Change). is_change_of o g kind) s.is_change ∙ and_from (g.0 == (object_of s.change).0) (same_kind kind (kind_for s.change)) object counted) (ap (λ (f : Bool). not f) s.once) s.did s.enough
       (ap (λ (t : List ℕ). same missed t) (sym s.others) ∙ same_self missed) (within_left missed (among refusing (since asks_lock w)) s.why)
 
   pub grounds_are : (has_grounds p attempt g kind missed b w older ≡ true) ↔ HasGrounds p attempt g kind missed b w older

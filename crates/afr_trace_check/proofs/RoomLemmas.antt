@@ -4,6 +4,7 @@ use Rattle.std.specs.List.{list_any}
 use Rattle.std.specs.Prelude.{option_and_then, option_map}
 use Rattle.std.proofs.lemmas.Bool.Decides.{nat_tests}
 use Rattle.std.proofs.lemmas.Option.{same_Some}
+use Rattle.std.proofs.lemmas.Bool.{or_parts}
 use Rattle.afr_base.specs.declared.ids.ActorId.{ActorId}
 use Rattle.afr_base.specs.declared.ids.BrickId.{BrickId}
 use Rattle.afr_base.specs.declared.ids.Gfid.{Gfid}
@@ -40,19 +41,16 @@ use Rattle.afr_trace_tally.specs.Room.{CanAsk, HasRoom}
 use Rattle.afr_trace_tally.proofs.TableLemmas.{bytes_past}
 
 -- ---- commands
-neither : (a b : Bool) → (a || b) ≡ false → (a ≡ false) × (b ≡ false)
-neither true b h = absurd (cc h)
-neither false b h = (refl, h)
 
 no_long_client : (clients : List (List Command)) (k : ℕ) → list_any has_long clients ≡ false → has_long (get_or clients k []) ≡ false
 no_long_client [] k h = refl
-no_long_client (x ∷ xs) zero h = (neither (has_long x) (list_any has_long xs) h).0
-no_long_client (x ∷ xs) (suc k) h = no_long_client xs k (neither (has_long x) (list_any has_long xs) h).1
+no_long_client (x ∷ xs) zero h = (or_parts (has_long x) (list_any has_long xs) h).0
+no_long_client (x ∷ xs) (suc k) h = no_long_client xs k (or_parts (has_long x) (list_any has_long xs) h).1
 
 no_long_command : (commands : List Command) (n : ℕ) (c : Command) → has_long commands ≡ false → slice_get commands n ≡ Some c → is_long c ≡ false
 no_long_command [] n c h e = absurd (cc e)
-no_long_command (x ∷ xs) zero c h e = ap is_long (sym (same_Some x c e)) ∙ (neither (is_long x) (has_long xs) h).0
-no_long_command (x ∷ xs) (suc n) c h e = no_long_command xs n c (neither (is_long x) (has_long xs) h).1 e
+no_long_command (x ∷ xs) zero c h e = ap is_long (sym (same_Some x c e)) ∙ (or_parts (is_long x) (has_long xs) h).0
+no_long_command (x ∷ xs) (suc n) c h e = no_long_command xs n c (or_parts (is_long x) (has_long xs) h).1 e
 
 -- each command of a plan that is short is
 command_short : (p : Plan) (a n : ℕ) (c : Command) → is_past_limit p ≡ false → slice_get (script_of p a) n ≡ Some c → is_long c ≡ false

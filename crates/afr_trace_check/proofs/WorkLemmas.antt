@@ -1,7 +1,6 @@
 -- What the lines of an actor's work make, one line more.
 use Rattle.std.proofs.Common.{◌≡◌, ◌∙◌, ℕ, suc, ◌+◌, ◌<◌, ◌≤◌, ◌||◌, ◌&&◌, Bool, true, false, List, [], ◌∷◌, ◌++◌, Option, Some, length, take, reverse, get_or, refl, sym, ap, arith, if◌then◌else◌}
-use Rattle.std.proofs.lemmas.List.{length-reverse, length-take, reverse-append, take_all}
-use Rattle.std.proofs.Math.Seq.{take-suc}
+use Rattle.std.proofs.lemmas.List.{take_all}
 use Rattle.afr_lines.specs.Work.{Work, is_end, is_of, work}
 use Rattle.afr_lines.specs.declared.line.Line.{Line}
 use Rattle.afr_model.specs.Healing.{heal_by, is_border}
@@ -9,32 +8,16 @@ use Rattle.afr_model.specs.Showing.{among, has}
 use Rattle.afr_model.specs.Standing.{since}
 use Rattle.afr_trace_check.specs.Grounds.{after_last, asks_lock, over, refusing}
 use Rattle.afr_trace_check.specs.Works.{in_work, last_list, lists}
+use Rattle.afr_trace_follow.proofs.LogLemmas.{newest}
+use Rattle.afr_trace_follow.proofs.PartLemmas.{work_step}
 
 -- ---- the lines up to a position
--- the newest of them is the one that stands there
-pub newest : (log : List Line) (at : ℕ) (line : Line) → at < length log → line ≡ get_or log at line → reverse (take (at + 1) log) ≡ line ∷ reverse (take at log)
-newest log at line l e =
-    let next : at + 1 ≡ suc at = omega arith in
-    let all : take (at + 1) log ≡ take at log ++ line ∷ [] = ap (λ (n : ℕ). take n log) next ∙ take-suc log at line l ∙ ap (λ (x : Line). take at log ++ x ∷ []) (sym e) in
-    ap (λ (t : List Line). reverse t) all ∙ reverse-append (take at log) (line ∷ [])
-
--- there are as many as it says
-pub length_before : (log : List Line) (at : ℕ) → at ≤ length log → at ≡ length (reverse (take at log))
-length_before log at l = omega (arith, length-reverse (take at log), length-take at log)
 
 -- what holds of all of them
 pub whole : {A : Type 0} (F : List Line → A) (log : List Line) (at : ℕ) (x : A) → length log ≤ at → x ≡ F (reverse (take at log)) → x ≡ F (reverse log)
 whole F log at x long h = h ∙ ap (λ (t : List Line). F (reverse t)) (take_all at log long)
 
 -- ---- a work
-work_step : {A : Type 0} (F : Work → A) (f : Line → List Line → A → A) → ((line : Line) (older : List Line) (w : Work) → F ((line, older) ∷ w) ≡ f line older (F w)) → (a : ℕ) (line : Line) (older : List Line) (was : A)
-    → was ≡ F (work a older) → (if is_of a line then (if is_end line then F [] else f line older was) else was) ≡ F (work a (line ∷ older))
-work_step {A} F f step a line older was h = by (is_of a line) (is_end line)
-  where
-    by : (of end : Bool) → (if of then (if end then F [] else f line older was) else was) ≡ F (if of then (if end then [] else (line, older) ∷ work a older) else work a older)
-    by true true = refl
-    by true false = ap (f line older) h ∙ sym (step line older (work a older))
-    by false end = h
 
 -- what each line of a work makes of what the lines before it made
 pub work_next : {A : Type 0} (F : Work → A) (f : Line → List Line → A → A) → ((line : Line) (older : List Line) (w : Work) → F ((line, older) ∷ w) ≡ f line older (F w)) → (a : ℕ) (log : List Line) (at : ℕ) (line : Line) (was : A)

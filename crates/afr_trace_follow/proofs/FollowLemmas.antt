@@ -4,6 +4,7 @@ use Rattle.std.specs.Prelude.{nat_le}
 use Rattle.std.proofs.lemmas.Bool.{and_parts, le-leb, leb-true, or_cases}
 use Rattle.std.proofs.lemmas.List.{get_or_past}
 use Rattle.std.proofs.lemmas.Option.{same_Some}
+use Rattle.std.proofs.Math.Bool.{or-true}
 use Rattle.afr_base.specs.declared.ids.ActorId.{ActorId}
 use Rattle.afr_base.specs.declared.ids.BrickId.{BrickId}
 use Rattle.afr_base.specs.declared.ids.NameId.{NameId}
@@ -66,9 +67,6 @@ pub same_join : (a x : ActorId) (b y : BrickId) → ((x ≡ a) × (y ≡ b) → 
 same_join a x b y = (λ k. rw (k.0, k.1) refl, λ e. (cc, cc))
 
 -- ---- actors
-or_true : (t : Bool) → (t || true) ≡ true
-or_true true = refl
-or_true false = refl
 
 pub actor_is : (p : Plan) (a : ℕ) → is_actor p a ≡ true → IsActor p a
 actor_is p a h = by (or_cases (nat_le 1 a && nat_le a (length p.clients)) (nat_le 17 a && nat_le a (16 + length p.healers)) h)
@@ -83,7 +81,7 @@ actor_is p a h = by (or_cases (nat_le 1 a && nat_le a (length p.clients)) (nat_l
 
 pub is_the_actor : (p : Plan) (a : ℕ) → IsActor p a → is_actor p a ≡ true
 is_the_actor p a (Client low high) = rw (le-leb 1 a low, le-leb a (length p.clients) high) refl
-is_the_actor p a (Healer low high) = rw (le-leb 17 a low, le-leb a (16 + length p.healers) high) (or_true (nat_le 1 a && nat_le a (length p.clients)))
+is_the_actor p a (Healer low high) = rw (le-leb 17 a low, le-leb a (16 + length p.healers) high) (or-true (nat_le 1 a && nat_le a (length p.clients)))
 
 -- they are few
 pub few_actors : (p : Plan) (a : ℕ) → HasFewActors p → IsActor p a → a < 20

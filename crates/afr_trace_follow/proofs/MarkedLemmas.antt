@@ -12,6 +12,7 @@ use Rattle.std.proofs.lemmas.Map.Entries.{lookup_head, lookup_tail}
 use Rattle.std.proofs.lemmas.Option.{same_Some}
 use Rattle.std.specs.declared.cmp.Ordering.{Ordering}
 use Rattle.std.specs.declared.cmp.Ordering.TheVariants.{Less}
+use Rattle.std.proofs.lemmas.Bool.{or_parts}
 use Rattle.afr_base.specs.Bricks.{member}
 use Rattle.afr_base.specs.Kinds.{same_kind}
 use Rattle.afr_base.specs.Marks.{is_zero_marks}
@@ -52,9 +53,6 @@ kind_is p log b g o e = ap (λ (x : Option View). option_map (λ (v : View). v.w
     by (Some x) = refl
 
 -- ---- a number above 0 was raised
-neither : (a b : Bool) → (a || b) ≡ false → (a ≡ false) × (b ≡ false)
-neither true b h = absurd (cc h)
-neither false b h = (refl, h)
 
 -- what a line about another object counts
 not_counted : (took here same kind there : Bool) (n : ℕ) → same ≡ false → (if took && here && same && kind && there then n else 0) ≡ 0
@@ -74,7 +72,7 @@ module _ (p : Plan) (b : ℕ) (g : Gfid) (kind : Kind) where
   none_over : (f : Line → List Line → ℕ) → ((line : Line) (older : List Line) → is_object (raised line) g ≡ false → f line older ≡ 0) → (log : List Line) → is_raised g log ≡ false → sum_over f log ≡ 0
   none_over f each [] h = refl
   none_over f each (line ∷ older) h =
-      let s = neither (is_object (raised line) g) (is_raised g older) h in
+      let s = or_parts (is_object (raised line) g) (is_raised g older) h in
       omega (arith, each line older s.0, none_over f each older s.1)
 
   zero_is : (d : ℕ) (f : ℕ → ℕ) → d ≡ 0 → ((c : ℕ) → f c ≡ 0) → is_zero_marks (record { dirty = d; pending = five f }) ≡ true

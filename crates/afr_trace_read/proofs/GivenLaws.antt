@@ -2,6 +2,7 @@
 use Rattle.std.proofs.Common.{◌≡◌, ◌⊎◌, inl, inr, ℕ, List, [], ◌∷◌, ◌++◌, Option, Some, None, refl, sym, ap, subst, ◌∙◌, Bool, true, false, ◌||◌, codes, drop, ◌^◌, ◌<◌, append_assoc}
 use Rattle.std.specs.Prelude.{decimal, is_some, length, map}
 use Rattle.std.proofs.lemmas.List.{append-nil}
+use Rattle.std.proofs.lemmas.Bool.{or_right, or_left, or_cases}
 use Rattle.afr_base.specs.Text.{gfid_spelling}
 use Rattle.afr_base.specs.declared.ids.Gfid.{Gfid}
 use Rattle.afr_base.specs.declared.ids.NameId.{NameId}
@@ -31,18 +32,6 @@ some_is (Some x) e = (x, refl)
 
 is_some_of : {A : Type 0} (o : Option A) (x : A) → o ≡ Some x → is_some o ≡ true
 is_some_of o x e = rw e refl
-
-one_of : (a b : Bool) → (a || b) ≡ true → (a ≡ true) ⊎ (b ≡ true)
-one_of true b e = inl refl
-one_of false b e = inr e
-
-first_is : (a b : Bool) → a ≡ true → (a || b) ≡ true
-first_is true b e = refl
-first_is false b e = absurd (cc e)
-
-second_is : (a b : Bool) → b ≡ true → (a || b) ≡ true
-second_is true b e = refl
-second_is false b e = e
 
 -- ---- what is read was given
 abbrev WasGiven : Plan → List ℕ → Type 0
@@ -77,11 +66,11 @@ names_were p text e =
     list_was p text s.0 u.0 u.1
 
 pub was_given : (p : Plan) (text : List ℕ) → is_contents p text ≡ true → WasGiven p text
-was_given p text e = elim (one_of (is_some (whole digits_at text)) _ e) [
+was_given p text e = elim (or_cases (is_some (whole digits_at text)) _ e) [
   | inl h ↦ bytes_were p text h
-  | inr later ↦ elim (one_of (is_some (whole (value_given_at p) text)) _ later) [
+  | inr later ↦ elim (or_cases (is_some (whole (value_given_at p) text)) _ later) [
     | inl h ↦ value_was p text h
-    | inr last ↦ elim (one_of (is_some (whole stat_at text)) _ last) [
+    | inr last ↦ elim (or_cases (is_some (whole stat_at text)) _ last) [
       | inl h ↦ stat_was p text h
       | inr h ↦ names_were p text h
     ]
@@ -90,16 +79,16 @@ was_given p text e = elim (one_of (is_some (whole digits_at text)) _ e) [
 
 -- ---- what may be given is read
 by_bytes : (p : Plan) (text : List ℕ) → is_some (whole digits_at text) ≡ true → is_contents p text ≡ true
-by_bytes p text h = first_is _ _ h
+by_bytes p text h = or_left _ _ h
 
 by_value : (p : Plan) (text : List ℕ) → is_some (whole (value_given_at p) text) ≡ true → is_contents p text ≡ true
-by_value p text h = second_is (is_some (whole digits_at text)) _ (first_is _ _ h)
+by_value p text h = or_right (is_some (whole digits_at text)) _ (or_left _ _ h)
 
 by_stat : (p : Plan) (text : List ℕ) → is_some (whole stat_at text) ≡ true → is_contents p text ≡ true
-by_stat p text h = second_is (is_some (whole digits_at text)) _ (second_is (is_some (whole (value_given_at p) text)) _ (first_is _ _ h))
+by_stat p text h = or_right (is_some (whole digits_at text)) _ (or_right (is_some (whole (value_given_at p) text)) _ (or_left _ _ h))
 
 by_names : (p : Plan) (text : List ℕ) → is_some (names_told p None text) ≡ true → is_contents p text ≡ true
-by_names p text h = second_is (is_some (whole digits_at text)) _ (second_is (is_some (whole (value_given_at p) text)) _ (second_is (is_some (whole stat_at text)) _ h))
+by_names p text h = or_right (is_some (whole digits_at text)) _ (or_right (is_some (whole (value_given_at p) text)) _ (or_right (is_some (whole stat_at text)) _ h))
 
 dash : (p : Plan) → is_contents p (codes " -") ≡ true
 unfolding digits_at

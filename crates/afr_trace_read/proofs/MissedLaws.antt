@@ -3,6 +3,7 @@ use Rattle.std.proofs.Common.{◌≡◌, ℕ, ◌+◌, ◌<◌, ◌==◌, List, 
 use Rattle.std.specs.List.{list_all}
 use Rattle.std.proofs.lemmas.Bool.Decides.{nat_tests}
 use Rattle.std.proofs.lemmas.Fmt.{decimal_digit}
+use Rattle.std.proofs.lemmas.Bool.{not-true}
 use Rattle.afr_base.specs.Bricks.{all_five, member, added_if, is_nothing, and_left, and_right}
 use Rattle.afr_plan.specs.Reading.{after, word}
 use Rattle.afr_plan_read.proofs.Laws.{after_takes, checked_some}
@@ -138,15 +139,11 @@ front_read xs =
     (d.2 ∙ ap (λ (t : List ℕ). taken d.0 (is_nothing (three_of a.0 b.0 c.0)) 3 ++ t) e.2))) in
     (subst (λ (s : List ℕ). IsBrickSet s) same l.1, text ∙ l.2 ∙ ap (λ (s : List ℕ). literal true s ++ rest) same)
 
-not_true : (b : Bool) → not b ≡ true → b ≡ false
-not_true true e = absurd (cc)
-not_true false e = refl
-
 listed-takes : Takes listed_bricks bricks_text IsBrickSet
 listed-takes = record {
   read = λ xs s rest e.
       let c = checked_some (not (is_nothing (front_bricks xs).0)) (front_bricks xs) (s, rest) e in
-      let some : is_nothing (front_bricks xs).0 ≡ false = not_true (is_nothing (front_bricks xs).0) c.0 in
+      let some : is_nothing (front_bricks xs).0 ≡ false = not-true (is_nothing (front_bricks xs).0) c.0 in
       let u = front_read xs in
       let P : List ℕ × List ℕ → Type 0 = λ z. IsBrickSet z.0 × (xs ≡ bricks_text z.0 ++ z.1) in
       subst P c.1 (u.0, u.1 ∙ ap (λ (t : List ℕ). t ++ (front_bricks xs).1) (sym (set_text (front_bricks xs).0 some u.0)));

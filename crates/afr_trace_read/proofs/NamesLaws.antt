@@ -5,6 +5,7 @@ use Rattle.std.specs.Ordering.{is_lt, nat_cmp}
 use Rattle.std.specs.Cmp.Lexicographic.{slice_cmp}
 use Rattle.std.proofs.lemmas.Bool.Decides.{nat_tests}
 use Rattle.std.proofs.lemmas.Cmp.{same_from_slice_cmp}
+use Rattle.std.proofs.lemmas.Bool.{not-true}
 use Rattle.afr_base.specs.declared.ids.NameId.{NameId}
 use Rattle.afr_base.specs.declared.ids.What.TheVariants.{File}
 use Rattle.afr_object.specs.declared.entry.Entry.{Entry}
@@ -46,11 +47,7 @@ pub not_itself : (s t : List ℕ) → s ≡ t → is_before s t ≡ true → ⊥
 not_itself s t e h = let same : false ≡ true = ap not (sym (itself s)) ∙ ap (is_before s) e ∙ h in cc same
 
 precedes_of : (s t : List ℕ) → is_before s t ≡ true → precedes s t ≡ true
-precedes_of s t h = other_way t s (not_true (precedes t s) h)
-  where
-    not_true : (b : Bool) → not b ≡ true → b ≡ false
-    not_true true e = absurd (cc e)
-    not_true false e = refl
+precedes_of s t h = other_way t s (not-true (precedes t s) h)
 
 pub before_of : (s t : List ℕ) → (s ≡ t → ⊥) → precedes s t ≡ true → is_before s t ≡ true
 before_of s t apart h = by (precedes t s) refl

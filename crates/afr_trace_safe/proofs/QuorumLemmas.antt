@@ -2,6 +2,7 @@
 use Rattle.std.proofs.Common.{◌≡◌, ◌∙◌, ◌⊎◌, inl, inr, ℕ, zero, suc, ◌+◌, ◌*◌, ◌<◌, ◌≤◌, ◌==◌, ◌&&◌, ◌||◌, not, nat_lt, Bool, true, false, List, [], ◌∷◌, refl, sym, ap, arith, if◌then◌else◌}
 use Rattle.std.specs.List.{list_any}
 use Rattle.std.proofs.lemmas.Bool.Decides.{eqb_tells, nat_tests}
+use Rattle.std.proofs.lemmas.Bool.{not-true, not_from_false, lt-ltb, ltb-true}
 use Rattle.afr_base.specs.Bricks.{IsWithin, and_left, member}
 use Rattle.afr_base.specs.Keeping.{keeps}
 use Rattle.afr_base.specs.Majority.{count_below, is_majority, is_most}
@@ -50,16 +51,10 @@ member_chosen (suc n) p b = by (p n) refl (eqb_tells n b) (member_chosen n p b)
     by false e (inr s) ih = rw (← next s.1) ih
 
 within_chosen : (n : ℕ) (p : ℕ → Bool) → IsWithin n (chosen n p)
-within_chosen n p b m = low b n (and_left (nat_lt b n) (p b) (sym (member_chosen n p b) ∙ m))
-  where
-    low : (b n : ℕ) → nat_lt b n ≡ true → b < n
-    low b n h = grind (arith, nat_tests, h)
-
-is_low : (b n : ℕ) → b < n → nat_lt b n ≡ true
-is_low b n l = grind (arith, nat_tests, l)
+within_chosen n p b m = ltb-true b n (and_left (nat_lt b n) (p b) (sym (member_chosen n p b) ∙ m))
 
 chosen_most : (n : ℕ) (p : ℕ → Bool) → is_majority n (chosen n p) ≡ is_most n p
-chosen_most n p = most_same n (member (chosen n p)) p (λ b l. member_chosen n p b ∙ rw (is_low b n l) refl)
+chosen_most n p = most_same n (member (chosen n p)) p (λ b l. member_chosen n p b ∙ rw (lt-ltb b n l) refl)
 
 -- none of those that fail a test passes it
 none_chosen : (n : ℕ) (q : ℕ → Bool) → list_any q (chosen n (λ x. not (q x))) ≡ false
@@ -109,13 +104,6 @@ all_four false b c d h = absurd (cc h)
 pub four_pass : (a b c d : Bool) → a ≡ true → b ≡ true → c ≡ true → d ≡ true → (a && b && c && d) ≡ true
 four_pass a b c d ha hb hc hd = rw (ha, hb, hc, hd) refl
 
-pub not_true : (b : Bool) → not b ≡ true → b ≡ false
-not_true true h = absurd (cc h)
-not_true false h = refl
-
-pub true_not : (b : Bool) → b ≡ false → not b ≡ true
-true_not b h = rw h refl
-
 -- ---- good copies
 module _ (p : Plan) (log : List Line) (g : Gfid) (kind : Kind) (b : ℕ) where
   -- the bricks that don't accuse a copy
@@ -127,8 +115,8 @@ module _ (p : Plan) (log : List Line) (g : Gfid) (kind : Kind) (b : ℕ) where
   unfolding quiet
   good_judged among within most good =
       let t = all_four (member among b) (has_object p log g b) (keeps p.shape kind b) (not (list_any (λ x. accuses p log g kind x b) among)) good in
-      let none : list_any (λ x. accuses p log g kind x b) among ≡ false = not_true (list_any (λ x. accuses p log g kind x b) among) t.3 in
-      let each : (x : ℕ) → member among x ≡ true → quiet x ≡ true = λ x m. true_not (accuses p log g kind x b) (none_passes (λ y. accuses p log g kind y b) among none x m) in
+      let none : list_any (λ x. accuses p log g kind x b) among ≡ false = not-true (list_any (λ x. accuses p log g kind x b) among) t.3 in
+      let each : (x : ℕ) → member among x ≡ true → quiet x ≡ true = λ x m. not_from_false (accuses p log g kind x b) (none_passes (λ y. accuses p log g kind y b) among none x m) in
       (within b t.0, four_pass (has_object p log g b) (keeps p.shape kind b) (quiet b) (is_most p.shape.n quiet) t.1 t.2 (each b t.0) (more_most p.shape.n (member among) quiet each most))
 
   -- a judged copy is good in a majority
@@ -136,10 +124,10 @@ module _ (p : Plan) (log : List Line) (g : Gfid) (kind : Kind) (b : ℕ) where
   unfolding quiet
   judged_good low judged =
       let t = all_four (has_object p log g b) (keeps p.shape kind b) (quiet b) (is_most p.shape.n quiet) judged in
-      let in_it : member (chosen p.shape.n quiet) b ≡ true = member_chosen p.shape.n quiet b ∙ rw (is_low b p.shape.n low, t.2) refl in (
+      let in_it : member (chosen p.shape.n quiet) b ≡ true = member_chosen p.shape.n quiet b ∙ rw (lt-ltb b p.shape.n low, t.2) refl in (
         chosen_most p.shape.n quiet ∙ t.3,
         four_pass (member (chosen p.shape.n quiet) b) (has_object p log g b) (keeps p.shape kind b) (not (list_any (λ x. accuses p log g kind x b) (chosen p.shape.n quiet))) in_it t.0 t.1
-            (true_not (list_any (λ x. accuses p log g kind x b) (chosen p.shape.n quiet)) (none_chosen p.shape.n (λ x. accuses p log g kind x b))),
+            (not_from_false (list_any (λ x. accuses p log g kind x b) (chosen p.shape.n quiet)) (none_chosen p.shape.n (λ x. accuses p log g kind x b))),
       )
 
 -- ---- safe logs

@@ -1,7 +1,7 @@
 -- A log that was safe before its last line is safe where each object that the line touches is.
 use Rattle.std.proofs.Common.{◌≡◌, ◌∙◌, ◌↔◌, ℕ, ◌+◌, ◌-◌, ◌<◌, ◌==◌, ◌&&◌, ◌||◌, not, nat_lt, Bool, true, false, List, [], ◌∷◌, ◌++◌, Option, Some, None, length, refl, sym, ap, subst, arith, if◌then◌else◌}
 use Rattle.std.specs.Prelude.{is_some, option_and_then, slice_index}
-use Rattle.std.proofs.lemmas.Bool.{eqb-true}
+use Rattle.std.proofs.lemmas.Bool.{eqb-true, not-true, lt-ltb}
 use Rattle.std.proofs.lemmas.Bool.Decides.{nat_tests}
 use Rattle.std.proofs.lemmas.Option.{same_Some}
 use Rattle.afr_base.specs.Keeping.{keeps}
@@ -30,7 +30,7 @@ use Rattle.afr_model.specs.Sums.{blames, has_object, settles_pending, sum_over}
 use Rattle.afr_trace_safe.specs.Judged.{AllCurrent, IsObjectSafe, is_judged}
 use Rattle.afr_trace_safe.specs.Touched.{AreObjectsSafe, WasSafe, begun_more, begun_object, begun_objects, touched}
 use Rattle.afr_trace_safe.proofs.CopyLemmas.{value_plain}
-use Rattle.afr_trace_safe.proofs.QuorumLemmas.{all_four, each_safe, four_pass, more_most, not_true, safe_each}
+use Rattle.afr_trace_safe.proofs.QuorumLemmas.{all_four, each_safe, four_pass, more_most, safe_each}
 use Rattle.afr_trace_safe.proofs.StandsLemmas.{inside, touches_own}
 use Rattle.afr_trace_safe.proofs.StaysLemmas.{copy_stays, gfid_is, has_plain, in_neither, listed_at, lists}
 
@@ -65,7 +65,7 @@ quiet_before p l older g kind x c out h = by (accuses p older g kind x c) refl
     by false e = refl
     by true e =
         let now : accuses p (l ∷ older) g kind x c ≡ true = accuses_still p l older g kind x c out e in
-        let no : accuses p (l ∷ older) g kind x c ≡ false = not_true (accuses p (l ∷ older) g kind x c) h in
+        let no : accuses p (l ∷ older) g kind x c ≡ false = not-true (accuses p (l ∷ older) g kind x c) h in
         absurd (cc)
 
 -- a copy of it that is judged was judged before
@@ -77,8 +77,6 @@ judged_before p l older g kind b out h =
     (more_most p.shape.n (λ x. not (accuses p (l ∷ older) g kind x b)) (λ x. not (accuses p older g kind x b)) (λ x m. quiet_before p l older g kind x b out m) t.3)
 
 -- ---- acknowledged attempts
-low_yes : (q n : ℕ) → q < n → nat_lt q n ≡ true
-low_yes q n l = grind (arith, nat_tests, l)
 
 no_at : (q n : ℕ) → nat_lt q n ≡ true → (q == n) ≡ false
 no_at q n h = grind (arith, nat_tests, h)
@@ -135,7 +133,7 @@ begun_listed a (l ∷ older) q actor change e same none = by (q == length older)
         → lists (begun_more a l (begun_objects a older)) (object_of change).0 ≡ true
     by true k m more = here (same_Some l (line.Begin actor change) m)
     by false k m more =
-        let low : nat_lt q (length older) ≡ true = low_yes q (length older) (inside q older (line.Begin actor change) m) in
+        let low : nat_lt q (length older) ≡ true = lt-ltb q (length older) (inside q older (line.Begin actor change) m) in
         let replies : earlier (first_reply a q older) (reply_by a l) ≡ None = rw low at none in
         let s = after (first_reply a q older) replies in
         begun_stays a l (begun_objects a older) (object_of change).0 s.1 (more m s.0)
@@ -188,7 +186,7 @@ stays_at l older q change e = by (from_oldest q older) refl e
   where
     by : (o : Option Line) → from_oldest q older ≡ o → option_and_then change_of o ≡ Some change → option_and_then change_of (if q == length older then Some l else from_oldest q older) ≡ Some change
     by None f h = absurd (cc h)
-    by (Some x) f h = rw (no_at q (length older) (low_yes q (length older) (inside q older x f)), f) h
+    by (Some x) f h = rw (no_at q (length older) (lt-ltb q (length older) (inside q older x f)), f) h
 
 current_later : (p : Plan) (l : Line) (older : List Line) (b : ℕ) (cell : Cell) → lists (touched p l older) (object_of_cell cell).0 ≡ false → IsCurrent p older b cell → IsCurrent p (l ∷ older) b cell
 current_later p l older b cell out current = by current

@@ -1,18 +1,15 @@
 -- The test of two values passes exactly where they are the same.
-use Rattle.std.proofs.Common.{◌≡◌, ◌∙◌, ℕ, ◌==◌, ◌&&◌, Bool, true, Option, Some, None, refl, ap, arith}
-use Rattle.std.proofs.lemmas.Bool.{eqb-true}
-use Rattle.std.proofs.lemmas.Bool.Decides.{nat_tests}
+use Rattle.std.proofs.Common.{◌≡◌, ◌∙◌, ℕ, ◌==◌, ◌&&◌, true, Option, Some, None, refl, ap, arith}
+use Rattle.std.proofs.lemmas.Bool.{eqb-true, and_from}
 use Rattle.afr_base.specs.Bricks.{and_left, and_right}
 use Rattle.afr_base.specs.Kinds.{same_what}
 use Rattle.afr_base.specs.declared.ids.ValueId.{ValueId}
 use Rattle.afr_base.specs.declared.ids.What.{What}
 use Rattle.afr_base.specs.declared.ids.What.TheVariants.{File, Dir}
+use Rattle.afr_base.proofs.TestLemmas.{same_number}
 use Rattle.afr_object.specs.declared.entry.Entry.{Entry}
 use Rattle.afr_model.specs.Cells.{Value, IsByte, IsAttr, IsEntry}
 use Rattle.afr_trace_safe.specs.Same.{same_attr, same_entry, same_value}
-
-eq_self : (n : ℕ) → (n == n) ≡ true
-eq_self n = grind (arith, nat_tests)
 
 abbrev attr_by : ℕ → ValueId
 attr_by n = record { 0 = n }
@@ -28,7 +25,7 @@ attr_is (Some v) None h = absurd (cc h)
 
 attr_self : (v : Option ValueId) → same_attr v v ≡ true
 attr_self None = refl
-attr_self (Some v) = eq_self v.0
+attr_self (Some v) = same_number v.0
 
 what_is : (v w : What) → same_what v w ≡ true → v ≡ w
 what_is File File h = refl
@@ -50,12 +47,9 @@ entry_is (Some e) (Some f) h =
 entry_is None (Some f) h = absurd (cc h)
 entry_is (Some e) None h = absurd (cc h)
 
-both_pass : (a b : Bool) → a ≡ true → b ≡ true → (a && b) ≡ true
-both_pass a b e f = rw (e, f) refl
-
 entry_self : (e : Option Entry) → same_entry e e ≡ true
 entry_self None = refl
-entry_self (Some e) = both_pass (e.gfid.0 == e.gfid.0) (same_what e.what e.what) (eq_self e.gfid.0) (what_self e.what)
+entry_self (Some e) = and_from (e.gfid.0 == e.gfid.0) (same_what e.what e.what) (same_number e.gfid.0) (what_self e.what)
 
 pub value_is : (v w : Value) → same_value v w ≡ true → v ≡ w
 value_is (IsByte m) (IsByte n) h = ap (λ (k : ℕ). IsByte k) (eqb-true m n h)
@@ -64,6 +58,6 @@ value_is (IsEntry e) (IsEntry f) h = ap (λ (o : Option Entry). IsEntry o) (entr
 value_is v w h = absurd (cc h)
 
 pub value_self : (v : Value) → same_value v v ≡ true
-value_self (IsByte n) = eq_self n
+value_self (IsByte n) = same_number n
 value_self (IsAttr v) = attr_self v
 value_self (IsEntry e) = entry_self e

@@ -6,6 +6,7 @@ use Rattle.std.proofs.lemmas.Bool.Decides.{eqb_tells, nat_tests}
 use Rattle.std.proofs.lemmas.Option.{same_Some}
 use Rattle.afr_base.specs.Bricks.{and_left}
 use Rattle.afr_base.specs.declared.ids.Gfid.{Gfid}
+use Rattle.afr_base.proofs.TestLemmas.{below_or_last}
 use Rattle.afr_object.specs.Bytes.{is_within}
 use Rattle.afr_object.specs.Tables.{object_of}
 use Rattle.afr_object.specs.declared.change.Change.{Change}
@@ -99,20 +100,17 @@ data Kept (log : List Line) (cell : Cell) (v : Value) (opening : Bool) (n : ℕ)
   First : opening ≡ true → NoneBelow log cell n → Kept log cell v opening n
   By : (q : ℕ) (change : Change) → q < n → change_at q log ≡ Some change → touches change cell ≡ true → v ≡ leaves change cell → NoneBetween log cell q n → Kept log cell v opening n
 
-below_or_at : (j k : ℕ) → j < suc k → (j < k) ⊎ (j ≡ k)
-below_or_at j k l = grind arith
-
 module _ (log : List Line) (cell : Cell) (v : Value) (opening : Bool) where
   extend : (k : ℕ) → (is_acknowledged log k ≡ true → touches_if (change_at k log) cell ≡ true → ⊥) → Kept log cell v opening k → Kept log cell v opening (suc k)
   extend k never (First e none) =
-      First e (λ j l a t. elim (below_or_at j k l) as (λ _. ⊥) [ inl s ↦ none j s a t | inr f ↦ never (subst (λ (i : ℕ). is_acknowledged log i ≡ true) f a) (subst (λ (i : ℕ). touches_if (change_at i log) cell ≡ true) f t) ])
+      First e (λ j l a t. elim (below_or_last j k l) as (λ _. ⊥) [ inl s ↦ none j s a t | inr f ↦ never (subst (λ (i : ℕ). is_acknowledged log i ≡ true) f a) (subst (λ (i : ℕ). touches_if (change_at i log) cell ≡ true) f t) ])
   extend k never (By q change l e t h none) =
       By q change (omega (arith, l)) e t h
-      (λ j m a u. elim (below_or_at j k m) as (λ _. j ≤ q) [ inl s ↦ none j s a u | inr f ↦ absurd (never (subst (λ (i : ℕ). is_acknowledged log i ≡ true) f a) (subst (λ (i : ℕ). touches_if (change_at i log) cell ≡ true) f u)) ])
+      (λ j m a u. elim (below_or_last j k m) as (λ _. j ≤ q) [ inl s ↦ none j s a u | inr f ↦ absurd (never (subst (λ (i : ℕ). is_acknowledged log i ≡ true) f a) (subst (λ (i : ℕ). touches_if (change_at i log) cell ≡ true) f u)) ])
 
   shrink : (k : ℕ) → ((change : Change) → change_at k log ≡ Some change → touches change cell ≡ true → v ≡ leaves change cell → ⊥) → Kept log cell v opening (suc k) → Kept log cell v opening k
   shrink k apart (First e none) = First e (λ j l a t. none j (omega (arith, l)) a t)
-  shrink k apart (By q change l e t h none) = by (below_or_at q k l)
+  shrink k apart (By q change l e t h none) = by (below_or_last q k l)
     where
       by : (q < k) ⊎ (q ≡ k) → Kept log cell v opening k
       by (inl s) = By q change s e t h (λ j m a u. none j (omega (arith, m)) a u)
@@ -121,7 +119,7 @@ module _ (log : List Line) (cell : Cell) (v : Value) (opening : Bool) where
   -- an acknowledged attempt that left another value lets none stand that is older
   over : (k : ℕ) (change : Change) → change_at k log ≡ Some change → touches change cell ≡ true → same_value v (leaves change cell) ≡ false → is_acknowledged log k ≡ true → Kept log cell v opening (suc k) → ⊥
   over k change e t s a (First f none) = none k (omega arith) a (rw e t)
-  over k change e t s a (By q other l f u h none) = by (below_or_at q k l)
+  over k change e t s a (By q other l f u h none) = by (below_or_last q k l)
     where
       by : (q < k) ⊎ (q ≡ k) → ⊥
       by (inl m) = let le : k ≤ q = none k (omega arith) a (rw e t) in omega (arith, le, m)

@@ -1,13 +1,13 @@
 -- A line leaves the copies as they are of each object that it doesn't touch.
 use Rattle.std.proofs.Common.{◌≡◌, ◌∙◌, ◌⊎◌, inl, inr, ℕ, suc, ◌==◌, ◌||◌, Bool, true, false, List, [], ◌∷◌, ◌++◌, Option, Some, None, slice_get, refl, sym, ap, subst, cond, take, if◌then◌else◌}
-use Rattle.std.specs.Prelude.{is_some, option_map}
+use Rattle.std.specs.Prelude.{is_some}
 use Rattle.std.specs.BTreeMap.{insert_entry, is_at}
 use Rattle.std.specs.List.{list_any}
 use Rattle.std.specs.Map.{lookup, remove_entry}
 use Rattle.std.specs.Ordering.{match_ordering}
 use Rattle.std.specs.declared.cmp.Ordering.{Ordering}
 use Rattle.std.specs.declared.cmp.Ordering.TheVariants.{Less, Equal, Greater}
-use Rattle.std.proofs.lemmas.Bool.{eqb-true}
+use Rattle.std.proofs.lemmas.Bool.{eqb-true, or_right, or_parts, or_cases}
 use Rattle.afr_base.specs.declared.ids.Gfid.{Gfid}
 use Rattle.afr_base.specs.declared.ids.NameId.{NameId}
 use Rattle.afr_base.specs.declared.ids.What.{What}
@@ -30,8 +30,8 @@ use Rattle.afr_plan.specs.declared.plan.Plan.{Plan}
 use Rattle.afr_model.specs.Sums.{has_object}
 use Rattle.afr_model.specs.Tables.{all_names_shown, attrs_shown, bytes_shown, carried, effect, held_before, holds, keeps_bytes, names_shown}
 use Rattle.afr_trace_safe.specs.Touched.{all_lacked, all_read_objects, asked_objects, changed_objects, lacked, made_objects, named_objects, touched}
-use Rattle.afr_trace_tables.specs.Plain.{bare_object, plain_tables, plainly_asked}
-use Rattle.afr_trace_tables.proofs.BareLaws.{copy_bare}
+use Rattle.afr_trace_tables.specs.Plain.{plain_tables, plainly_asked}
+use Rattle.afr_trace_tables.proofs.BareLaws.{copy_bare, there_bare}
 use Rattle.afr_trace_tables.proofs.PlainLaws.{now_bare}
 use Rattle.afr_trace_tally.proofs.TableLemmas.{names_past}
 
@@ -39,22 +39,10 @@ use Rattle.afr_trace_tally.proofs.TableLemmas.{names_past}
 abbrev pub lists : List Gfid → ℕ → Bool
 lists xs n = list_any (λ x. x.0 == n) xs
 
-or_split : (a b : Bool) → (a || b) ≡ true → (a ≡ true) ⊎ (b ≡ true)
-or_split true b h = inl refl
-or_split false b h = inr h
-
-neither : (a b : Bool) → (a || b) ≡ false → (a ≡ false) × (b ≡ false)
-neither true b h = absurd (cc h)
-neither false b h = (refl, h)
-
-or_right : (a b : Bool) → b ≡ true → (a || b) ≡ true
-or_right true b h = refl
-or_right false b h = h
-
 pub in_neither : (xs ys : List Gfid) (n : ℕ) → lists (xs ++ ys) n ≡ false → (lists xs n ≡ false) × (lists ys n ≡ false)
 in_neither [] ys n h = (refl, h)
 in_neither (x ∷ xs) ys n h =
-    let s = neither (x.0 == n) (lists (xs ++ ys) n) h in
+    let s = or_parts (x.0 == n) (lists (xs ++ ys) n) h in
     let more = in_neither xs ys n s.1 in
     (rw s.0 more.0, more.1)
 
@@ -68,12 +56,9 @@ listed_at (x ∷ xs) n h = by (x.0 == n) refl h (listed_at xs n)
     by false e k more = let r = more k in (suc r.0, r.1, r.2, r.3)
 
 -- ---- what a brick has
-some_map : (o : Option Object) → is_some (option_map bare_object o) ≡ is_some o
-some_map None = refl
-some_map (Some o) = refl
 
 pub has_plain : (p : Plan) (log : List Line) (g : Gfid) (b : ℕ) → is_some (copy_at g ((plain_tables p log).now b)) ≡ has_object p log g b
-has_plain p log g b = ap (λ (t : Table). is_some (copy_at g t)) (now_bare p log b) ∙ ap (λ (o : Option Object). is_some o) (copy_bare g (holds p log b)) ∙ some_map (copy_at g (holds p log b))
+has_plain p log g b = ap (λ (t : Table). is_some (copy_at g t)) (now_bare p log b) ∙ ap (λ (o : Option Object). is_some o) (copy_bare g (holds p log b)) ∙ there_bare (copy_at g (holds p log b))
 
 abbrev gfid_by : ℕ → Gfid
 gfid_by n = record { 0 = n }
@@ -87,7 +72,7 @@ lacked_held p log b f g same h = sym (ap (λ (q : Gfid). has_object p log q b) (
   where
     by : (t : Bool) → has_object p log f b ≡ t → lists (if t then [] else f ∷ []) g.0 ≡ false → t ≡ true
     by true e k = refl
-    by false e k = let s = neither (f.0 == g.0) false k in absurd (cc (s.0, same))
+    by false e k = let s = or_parts (f.0 == g.0) false k in absurd (cc (s.0, same))
 
 -- ---- one copy changed, one object made
 other_stays : (f : Object → Object) (h g : Gfid) (t : Table) → (h.0 == g.0) ≡ false → copy_at g (changed f h (copy_at h t) t) ≡ copy_at g t
@@ -116,13 +101,13 @@ all_made_stays (x ∷ names) g new t same held =
     first k = rw k refl
 
 inserted_leads : (t : List (NameId × Entry)) (name : NameId) (e : Entry) (n : ℕ) → leads (insert_entry name_cmp t name e) n ≡ true → ((e.gfid.0 == n) ≡ true) ⊎ (leads t n ≡ true)
-inserted_leads [] name e n h = or_split (e.gfid.0 == n) false h
+inserted_leads [] name e n h = or_cases (e.gfid.0 == n) false h
 inserted_leads (x ∷ t) name e n h = by (name_cmp name x.0) h (inserted_leads t name e n)
   where
     by : (c : Ordering) → leads (match_ordering c ((name, e) ∷ x ∷ t) ((x.0, e) ∷ t) (x ∷ insert_entry name_cmp t name e)) n ≡ true
         → (leads (insert_entry name_cmp t name e) n ≡ true → ((e.gfid.0 == n) ≡ true) ⊎ (leads t n ≡ true)) → ((e.gfid.0 == n) ≡ true) ⊎ (leads (x ∷ t) n ≡ true)
-    by Less k more = or_split (e.gfid.0 == n) (leads (x ∷ t) n) k
-    by Equal k more = elim (or_split (e.gfid.0 == n) (leads t n) k) as (λ _. ((e.gfid.0 == n) ≡ true) ⊎ (leads (x ∷ t) n ≡ true)) [ inl s ↦ inl s | inr s ↦ inr (or_right (x.1.gfid.0 == n) (leads t n) s) ]
+    by Less k more = or_cases (e.gfid.0 == n) (leads (x ∷ t) n) k
+    by Equal k more = elim (or_cases (e.gfid.0 == n) (leads t n) k) as (λ _. ((e.gfid.0 == n) ≡ true) ⊎ (leads (x ∷ t) n ≡ true)) [ inl s ↦ inl s | inr s ↦ inr (or_right (x.1.gfid.0 == n) (leads t n) s) ]
     by Greater k more = split (x.1.gfid.0 == n) k
       where
         later : (f : Bool) → ((e.gfid.0 == n) ≡ true) ⊎ (leads t n ≡ true) → ((e.gfid.0 == n) ≡ true) ⊎ ((f || leads t n) ≡ true)
@@ -180,7 +165,7 @@ named_held : (p : Plan) (log : List Line) (b : ℕ) (g : Gfid) (names : List (Na
 named_held p log b g [] h k = absurd (cc k)
 named_held p log b g (x ∷ names) h k =
     let s = in_neither (lacked p log b x.1.gfid) (all_lacked p log b names) g.0 h in
-    elim (or_split (x.1.gfid.0 == g.0) (leads names g.0) k) as (λ _. has_object p log g b ≡ true) [ inl m ↦ lacked_held p log b x.1.gfid g m s.0 | inr m ↦ named_held p log b g names s.1 m ]
+    elim (or_cases (x.1.gfid.0 == g.0) (leads names g.0) k) as (λ _. has_object p log g b ≡ true) [ inl m ↦ lacked_held p log b x.1.gfid g m s.0 | inr m ↦ named_held p log b g names s.1 m ]
 
 brought_held : (p : Plan) (log : List Line) (b : ℕ) (g : Gfid) (reads : List (Option ℕ)) → lists (all_read_objects p log b reads) g.0 ≡ false → leads (merged (all_names_shown (plain_tables p log).past log reads)) g.0 ≡ true
     → has_object p log g b ≡ true
@@ -232,7 +217,7 @@ module _ (p : Plan) (older : List Line) (b : ℕ) (g : Gfid) (keeps : Bool) (t :
 
   effect_stays : (o : Option Change) → lists (changed_objects p older b o) g.0 ≡ false → copy_at g (effect keeps o t) ≡ copy_at g t
   effect_stays None h = refl
-  effect_stays (Some change) h = let s = neither ((object_of change).0 == g.0) (lists (made_objects p older b change) g.0) h in applied_stays change s.0 s.1
+  effect_stays (Some change) h = let s = or_parts ((object_of change).0 == g.0) (lists (made_objects p older b change) g.0) h in applied_stays change s.0 s.1
 
   mended_stays : (r : Repair) → ((repaired r).0 == g.0) ≡ false → lists (named_objects p older b r) g.0 ≡ false → copy_at g (mended keeps r (carried (plain_tables p older).past older r) t) ≡ copy_at g t
   mended_stays (repair.CutTo f len) other new = other_stays (with_bytes keeps (take len)) f g t other
@@ -243,7 +228,7 @@ module _ (p : Plan) (older : List Line) (b : ℕ) (g : Gfid) (keeps : Bool) (t :
 
   asked_stays : (r : Request) → lists (asked_objects p older b r) g.0 ≡ false → copy_at g (plainly_asked keeps r older (plain_tables p older).past t) ≡ copy_at g t
   asked_stays (Apply attempt) h = effect_stays (change_at attempt older) h
-  asked_stays (Mend r) h = let s = neither ((repaired r).0 == g.0) (lists (named_objects p older b r) g.0) h in mended_stays r s.0 s.1
+  asked_stays (Mend r) h = let s = or_parts ((repaired r).0 == g.0) (lists (named_objects p older b r) g.0) h in mended_stays r s.0 s.1
   asked_stays r h = refl
 
 -- a line leaves the copies of an object that it doesn't touch

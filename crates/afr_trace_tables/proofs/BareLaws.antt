@@ -69,7 +69,7 @@ insert_bare (e ∷ es) g o = step (gfid_cmp g e.0) (insert_bare es g o)
     step Equal h = refl
     step Greater h = ap (λ (t : Table). (e.0, bare_object e.1) ∷ t) h
 
-there_bare : (o : Option Object) → is_some (option_map bare_object o) ≡ is_some o
+pub there_bare : (o : Option Object) → is_some (option_map bare_object o) ≡ is_some o
 there_bare None = refl
 there_bare (Some o) = refl
 

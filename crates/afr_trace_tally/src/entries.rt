@@ -1,6 +1,5 @@
 //! Which entry a line shows that asks for a name.
 ghost use Rattle.std.specs.Prelude.{◌≡◌, ◌<◌, ◌++◌, [], ◌∷◌, OnOk, length, reverse, slice_get};
-ghost use Rattle.std.specs.Option.{option_copied};
 ghost use Rattle.afr_model.specs.Tables.{entry_at};
 ghost use Rattle.afr_trace_tables.specs.Plain.{plain_tables};
 ghost use Rattle.afr_trace_tally.specs.Bricks.{AreBricks};

@@ -1,6 +1,5 @@
 //! How long the files may be that a plan writes and cuts.
 ghost use Rattle.std.specs.Prelude.{◌≡◌};
-ghost use Rattle.std.specs.List.{list_any};
 ghost use Rattle.afr_trace_tally.specs.Limits.{has_long, is_long, is_past_limit};
 
 use afr_plan::{Command, Plan};

@@ -27,6 +27,7 @@ use Rattle.afr_server.specs.Serving.{Serving}
 use Rattle.afr_law_next.specs.Turn.{Stood}
 use Rattle.afr_law_picks.specs.Laws.{KeepsPicked, LineKept, number_in}
 use Rattle.afr_law_picks.specs.Readings.{asked_in}
+use Rattle.afr_law_picks.proofs.Kept.{one_among}
 use Rattle.afr_client_walk.specs.Choosing.{IsAmong, reader_of}
 use Rattle.afr_law_client.specs.Laws.{IsNextLine}
 use Rattle.afr_client.specs.Work.{CarriesNext, IsWork, choices_heard, heard_by, next_of, register_of}
@@ -40,7 +41,7 @@ use Rattle.afr_volume.proofs.Before.{IsBefore, ask_laws, asks_next, before_ask}
 use Rattle.afr_volume.proofs.Before as known
 use Rattle.afr_volume.specs.Laws.{Laws}
 use Rattle.afr_volume.proofs.LineKeeps.{Asks, LineKeeps, asks_none, of_client, self, some_same}
-use Rattle.afr_volume.proofs.ReadingLemmas.{one_among, own_asked, picked_same}
+use Rattle.afr_volume.proofs.ReadingLemmas.{own_asked, picked_same}
 
 -- ---- a place within the work
 within_fresh : (p : Plan) (c : Command) (a : ActorId) (b : BrickId) (asked : Request) (told : Told) (took : Bool) (w : Lines) → IsOf p c (Ask a b asked told took) w → next_place Fresh (Ask a b asked told took) ≡ Within

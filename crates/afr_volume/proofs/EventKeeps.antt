@@ -32,6 +32,7 @@ use Rattle.afr_volume.proofs.ReadingLemmas.{reading_stays}
 use Rattle.afr_volume.proofs.LogLemmas.{reverse_push}
 use Rattle.afr_volume.proofs.PaceEvents.{event_paced}
 use Rattle.afr_volume.proofs.TaskLemmas.{killed_crawl}
+use Rattle.afr_volume.proofs.HealerTurn.{above}
 
 -- ---- the event that is due
 pub record IsDueNow (p : Plan) (log : List Line) (event : Event) : Type 0 where
@@ -139,9 +140,6 @@ victim_there p log event actors run same due = by event (event_is p log event ru
 pub healer_there : (p : Plan) (log : List Line) (event : Event) (healers : List Healer) → CanRun p → length healers ≡ length p.healers → due_at p log ≡ Some event → HasHealer event healers
 healer_there p log event healers run same due = by event (event_is p log event run due)
   where
-    above : (a : ℕ) → 17 ≤ a → a ≤ 16 → ⊥
-    above a low high = absurd (omega (arith, low, high))
-
     by : (event : Event) → IsEventOf p event → HasHealer event healers
     by (Stop b) k = tt
     by (Start b) k = tt

@@ -4,6 +4,7 @@ use Rattle.std.specs.Prelude.{is_some}
 use Rattle.std.proofs.lemmas.Bool.Decides.{eqb_tells, nat_tests}
 use Rattle.std.proofs.lemmas.List.{length-reverse}
 use Rattle.std.proofs.lemmas.Option.{slice_get_within}
+use Rattle.std.proofs.lemmas.Bool.{ne_eqb}
 use Rattle.afr_base.specs.declared.ids.ActorId.{ActorId}
 use Rattle.afr_base.specs.declared.ids.Gfid.{Gfid}
 use Rattle.afr_base.specs.declared.ids.What.{What}
@@ -33,7 +34,7 @@ use Rattle.afr_volume.specs.Tasks.{is_done_in, tasks_of}
 use Rattle.afr_volume.specs.Turning.{ReadiedHealerAt, StepsHealerAt, due_at}
 use Rattle.afr_volume.specs.declared.actor.Actor.{Actor}
 use Rattle.afr_volume.proofs.Before.{healer_is}
-use Rattle.afr_volume.proofs.HealersKeep.{before_round, differ, kept_healer, kept_line, kept_round, ready_healer, round_keeps, round_wrote}
+use Rattle.afr_volume.proofs.HealersKeep.{before_round, kept_healer, kept_line, kept_round, ready_healer, round_keeps, round_wrote}
 use Rattle.afr_volume.proofs.LineKeeps.{Wrote, other_work, wrote_other, wrote_own}
 use Rattle.afr_volume.proofs.PaceHeals.{heal_rises}
 use Rattle.afr_volume.proofs.PaceRounds.{ready_rounds, round_paced}
@@ -46,7 +47,7 @@ use Rattle.afr_volume.proofs.TaskLemmas.{readied_crawls}
 use Rattle.afr_volume.proofs.TaskTurn.{KeepsTasks, keeps_tasks}
 use Rattle.afr_volume.proofs.WholeTurn.{ended_le, none_due, settled}
 
-above : (a : ℕ) → 17 ≤ a → a ≤ 16 → ⊥
+pub above : (a : ℕ) → 17 ≤ a → a ≤ 16 → ⊥
 above a low high = absurd (omega (arith, low, high))
 
 got_set : (l : List Healer) (i : ℕ) (y z : Healer) → i < length l → slice_get (set l i y) i ≡ Some z → z ≡ y
@@ -125,7 +126,7 @@ module _ {crawl : Bool} (laws : RoundLaws) (paces : PaceLaws) (p : Plan) (a : Ac
       tasks : KeepsTasks crawl p a.0 (reverse items) healers new_healers line
       tasks = keeps_tasks crawl p a (reverse items) servers new_servers healers readied new_healers line healer known w.kept.runnable.clients w.crawling r same (mine same.before same.was)
           (round_keeps laws p a (reverse items) servers new_servers actors readied made line same.before same.after ready_whole healer known some same.was (made_so same.before same.was) few same.steps)
-          (λ c apart. other_work a c line (reverse items) wrote (differ a.0 c apart))
+          (λ c apart. other_work a c line (reverse items) wrote (ne_eqb a.0 c apart))
 
       volume : IsVolume crawl p (line ∷ reverse items) new_servers actors made
       volume = kept_line laws p a (reverse items) servers new_servers actors readied made line s.before s.after ready_whole healer known some s.was (made_so s.before s.was) few stepped actor alive

@@ -2,6 +2,7 @@
 use Rattle.std.proofs.Common.{◌≡◌, ◌≢◌, ◌∙◌, ℕ, zero, suc, ◌+◌, ◌-◌, ◌<◌, ◌≤◌, ◌==◌, ◌||◌, ◌⊎◌, not, Bool, true, false, List, [], ◌∷◌, refl, sym, ap, arith, subst, length, Some, slice_get, set, get_or, length-set, inl, inr}
 use Rattle.std.proofs.lemmas.Bool.Decides.{eqb_tells}
 use Rattle.std.proofs.lemmas.Option.{slice_get-get_or, slice_get_within}
+use Rattle.std.proofs.lemmas.Bool.{ne_eqb}
 use Rattle.afr_base.specs.declared.ids.ActorId.{ActorId}
 use Rattle.afr_base.specs.declared.ids.BrickId.{BrickId}
 use Rattle.afr_discipline.specs.declared.register.Register.{Register}
@@ -46,18 +47,11 @@ got_other (x ∷ l) zero (suc j) y z apart e = e
 got_other (x ∷ l) (suc i) zero y z apart e = e
 got_other (x ∷ l) (suc i) (suc j) y z apart e = got_other l i j y z (λ same. apart (ap suc same)) e
 
-pub differ : (a c : ℕ) → (a ≡ c → ⊥) → (a == c) ≡ false
-differ a c apart = by (eqb_tells a c)
-  where
-    by : ((a == c) ≡ true) × (a ≡ c) ⊎ ((a == c) ≡ false) × (a ≢ c) → (a == c) ≡ false
-    by (inl e) = absurd (apart e.1)
-    by (inr e) = e.0
-
 -- ---- a line of another actor
 module _ (laws : RoundLaws) (p : Plan) (a : ActorId) (c : ℕ) (line : Line) (log : List Line) (old new : List Serving) (wrote : Wrote a line) (apart : a.0 ≡ c → ⊥)
     (stands : (r : Register) → Stood p.shape c log r → Stood p.shape c (line ∷ log) r) (found : (epochs : Epochs) → AreFound c epochs old → AreFound c epochs new) where
   beside : IsBeside p c line log old new
-  beside = (let e = differ a.0 c apart in record {
+  beside = (let e = ne_eqb a.0 c apart in record {
     other = wrote_other a c line wrote e;
     same_work = other_work a c line log wrote e;
     same_place = other_place a c line log wrote e;
@@ -149,7 +143,7 @@ module _ {crawl : Bool} (laws : RoundLaws) (p : Plan) (a : ActorId) (log : List 
   client_stays : (i : ℕ) (z : Actor) → i + 1 ≤ 16 → IsActing p log (i + 1) servers z → IsActing p (line ∷ log) (i + 1) new z
   client_stays i z low k =
       let apart : (a.0 ≡ i + 1 → ⊥) = λ e. absurd (omega (arith, healer, low, e)) in
-      others_stay p a (i + 1) line log servers new z round_wrote (differ a.0 (i + 1) apart) (λ r. round_keeps.stands (i + 1) r apart) (λ epochs. round_keeps.found (i + 1) epochs (λ e. apart (sym e))) k
+      others_stay p a (i + 1) line log servers new z round_wrote (ne_eqb a.0 (i + 1) apart) (λ r. round_keeps.stands (i + 1) r apart) (λ epochs. round_keeps.found (i + 1) epochs (λ e. apart (sym e))) k
 
   pub kept_line : IsActor p a.0 → is_killed a.0 log ≡ false → NoneDue p log → IsVolume crawl p (line ∷ log) new actors made
   kept_line actor alive none = record {

@@ -25,6 +25,7 @@ use Rattle.afr_model.specs.Tables.{holds}
 use Rattle.afr_object.specs.Indexed.{index_of}
 use Rattle.afr_plan.specs.declared.plan.Plan.{Plan}
 use Rattle.afr_base.specs.declared.ids.Kind.{Kind}
+use Rattle.afr_base.proofs.TestLemmas.{same_number}
 use Rattle.afr_heal_round.specs.Rounding.{IsAnswered, next_of}
 use Rattle.afr_healer.specs.Acting.{Stepped, SteppedBy}
 use Rattle.afr_healer.specs.Laws.{RoundKeeps}
@@ -41,9 +42,6 @@ use Rattle.afr_volume.specs.Keeping.{AreHealers}
 use Rattle.afr_volume.proofs.LogLemmas.{reverse_push}
 use Rattle.afr_volume.proofs.SourceLemmas.{own_of}
 use Rattle.afr_volume.specs.Lists.{Lists, ShowsNext, gives_index, given_lists, noted, with_present}
-
-self : (n : ℕ) → (n == n) ≡ true
-self n = grind (arith, nat_tests)
 
 -- ---- a line of anybody else
 lists_beside : (p : Plan) (line : Line) (log : List Line) (was : Lists) → is_of 17 line ≡ false → lists_after p line log was ≡ was
@@ -67,7 +65,7 @@ given_first p a b told took log = refl
 pub given_index : (p : Plan) (a : ActorId) (b : BrickId) (told : Told) (took : Bool) (log : List Line) → a.0 ≡ 17 → work 17 log ≡ []
     → given_lists p (Ask a b request.Index told took ∷ log) ≡ (if gives_index (Ask a b request.Index told took) then Some (index_of (holds p log b.0)) else None) ∷ given_lists p log
 given_index p a b told took log who none =
-    let own : (a.0 == 17) ≡ true = ap (λ (n : ℕ). n == 17) who ∙ self 17 in
+    let own : (a.0 == 17) ≡ true = ap (λ (n : ℕ). n == 17) who ∙ same_number 17 in
     rw (own, none) (ap (λ (list : Option (List (Gfid × What))). list ∷ lists_by p log) (given_first p a b told took log))
 
 -- ---- it ends its round
@@ -76,7 +74,7 @@ present_some p first older w lists e = rw e refl
 
 pub given_end : (p : Plan) (a : ActorId) (said : Reply) (log : List Line) (first : Line × List Line) (older : Work) → a.0 ≡ 17 → work 17 log ≡ first ∷ older → given_lists p (End a said ∷ log) ≡ given_lists p log
 given_end p a said log first older who begun =
-    let own : (a.0 == 17) ≡ true = ap (λ (n : ℕ). n == 17) who ∙ self 17 in
+    let own : (a.0 == 17) ≡ true = ap (λ (n : ℕ). n == 17) who ∙ same_number 17 in
     rw own (sym (present_some p first older (work 17 log) (lists_by p log) begun))
 
 -- ---- what its line is
@@ -141,7 +139,7 @@ module _ (p : Plan) (a : ActorId) (log : List Line) (servers new : List Serving)
   lists_noted = by_next (next_of s.round) s.steps shows
 
 -- ---- what is handed out
-many_lists : (p : Plan) (log : List Line) → length (lists_by p log) ≡ ended 17 log
+pub many_lists : (p : Plan) (log : List Line) → length (lists_by p log) ≡ ended 17 log
 many_lists p [] = refl
 many_lists p (End x said ∷ older) = by (x.0 == 17) (many_lists p older)
   where

@@ -1,6 +1,7 @@
 -- A healer's turn keeps the pace of all actors.
 use Rattle.std.proofs.Common.{◌≡◌, ℕ, ◌+◌, ◌-◌, ◌<◌, ◌≤◌, List, ◌∷◌, Bool, true, sym, arith, subst, length, Some, slice_get, set, not}
 use Rattle.std.proofs.lemmas.Option.{slice_get_within}
+use Rattle.std.proofs.lemmas.Bool.{ne_eqb}
 use Rattle.afr_base.specs.declared.ids.ActorId.{ActorId}
 use Rattle.afr_law_bound.specs.Ends.Cost.{IsWithinCost, objects_of}
 use Rattle.afr_heal_round.specs.Rounding.{IsAnswered}
@@ -18,7 +19,7 @@ use Rattle.afr_volume.specs.Laws.{PaceLaws}
 use Rattle.afr_volume.specs.Pacing.{ArePaced}
 use Rattle.afr_volume.specs.Turning.{ReadiedHealerAt}
 use Rattle.afr_volume.specs.declared.actor.Actor.{Actor}
-use Rattle.afr_volume.proofs.HealersKeep.{before_round, differ}
+use Rattle.afr_volume.proofs.HealersKeep.{before_round}
 use Rattle.afr_volume.proofs.LineKeeps.{Wrote, wrote_other}
 use Rattle.afr_volume.proofs.PaceAll.{set_each}
 use Rattle.afr_volume.proofs.PaceTurns.{is_of_plan, other_paced}
@@ -60,7 +61,7 @@ module _ {crawl : Bool} (paces : PaceLaws) (p : Plan) (a : ActorId) (log : List 
         other_paced p a (i + 1) line log z.work wrote apart (w.pacing.clients i z h);
     rounds =
         set_each (λ (i : ℕ) (z : Healer). IsPacedRound p (17 + i) (line ∷ log) z.round) healers (a.0 - 17) y
-        (λ i z apart h. paces.beside p (17 + i) line log z.round (wrote_other a (17 + i) line wrote (differ a.0 (17 + i) (λ e. apart (omega (arith, e))))) (w.pacing.rounds i z h))
+        (λ i z apart h. paces.beside p (17 + i) line log z.round (wrote_other a (17 + i) line wrote (ne_eqb a.0 (17 + i) (λ e. apart (omega (arith, e))))) (w.pacing.rounds i z h))
         (subst (λ (c : ℕ). IsPacedRound p c (line ∷ log) y.round) (sym again) own.0);
     rising = (rises, w.pacing.rising);
     within = (own.1, w.pacing.within);

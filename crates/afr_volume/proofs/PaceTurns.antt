@@ -1,6 +1,7 @@
 -- A client's turn keeps the pace of all actors.
 use Rattle.std.proofs.Common.{◌≡◌, ◌∙◌, ℕ, ◌+◌, ◌-◌, ◌<◌, ◌≤◌, List, [], ◌∷◌, ◌++◌, Bool, sym, arith, subst, length, Some, slice_get, set, reverse}
 use Rattle.std.proofs.lemmas.List.{length-reverse}
+use Rattle.std.proofs.lemmas.Bool.{ne_eqb}
 use Rattle.afr_base.specs.declared.ids.ActorId.{ActorId}
 use Rattle.afr_law_names.specs.Descent.Descent.{IsOfPlan}
 use Rattle.afr_lines.specs.Work.{ended, work}
@@ -16,7 +17,6 @@ use Rattle.afr_volume.specs.Laws.{BeginLaws, Laws, PaceLaws}
 use Rattle.afr_volume.specs.Pacing.{ArePaced, IsPaced}
 use Rattle.afr_volume.specs.Turning.{ReadiedAt, StepsAt}
 use Rattle.afr_volume.specs.declared.actor.Actor.{Actor}
-use Rattle.afr_volume.proofs.HealersKeep.{differ}
 use Rattle.afr_volume.proofs.LineKeeps.{LineKeeps, Wrote, other_ended, other_work, wrote_other}
 use Rattle.afr_volume.proofs.LogLemmas.{reverse_push}
 use Rattle.afr_volume.proofs.PaceAll.{set_each}
@@ -32,7 +32,7 @@ paced_on p c line log w same_work same_ended k = record { within = left_on p c l
 
 -- so it is after a line of another actor
 pub other_paced : (p : Plan) (a : ActorId) (c : ℕ) (line : Line) (log : List Line) (w : WorkMachine) → Wrote a line → (a.0 ≡ c → ⊥) → IsPaced p c log w → IsPaced p c (line ∷ log) w
-other_paced p a c line log w wrote apart k = let e = differ a.0 c apart in paced_on p c line log w (other_work a c line log wrote e) (other_ended a c line log wrote e) k
+other_paced p a c line log w wrote apart k = let e = ne_eqb a.0 c apart in paced_on p c line log w (other_work a c line log wrote e) (other_ended a c line log wrote e) k
 
 -- what is presumed of a log is kept
 pub is_of_plan : {crawl : Bool} (p : Plan) (log : List Line) (servers : List Serving) (actors : List Actor) (made : ℕ) → IsVolume crawl p log servers actors made → IsOfPlan p log
@@ -87,7 +87,7 @@ module _ {crawl : Bool} (paces : PaceLaws) (laws : Laws) (starts : BeginLaws) (p
     paced : ArePaced p (line ∷ reverse items) (set readied (a.0 - 1) s.after) healers
     paced = record {
       clients = clients;
-      rounds = λ i z h. let apart : (a.0 ≡ 17 + i → ⊥) = λ e. absurd (omega (arith, client, e)) in paces.beside p (17 + i) line (reverse items) z.round (wrote_other a (17 + i) line keeps.wrote (differ a.0 (17 + i) apart)) (k.rounds i z h);
+      rounds = λ i z h. let apart : (a.0 ≡ 17 + i → ⊥) = λ e. absurd (omega (arith, client, e)) in paces.beside p (17 + i) line (reverse items) z.round (wrote_other a (17 + i) line keeps.wrote (ne_eqb a.0 (17 + i) apart)) (k.rounds i z h);
       rising = (own.rising, k.rising);
       within = (own.within, k.within);
     }

@@ -42,8 +42,8 @@ use Rattle.afr_volume.specs.Turning.{Readies}
 use Rattle.afr_volume.specs.declared.actor.Actor.{Actor}
 use Rattle.afr_volume.proofs.LineKeeps.{self}
 use Rattle.afr_volume.proofs.PaceLines.{has_left, is_within, unlock_fits}
-use Rattle.afr_volume.proofs.ReadingLemmas.{one_among}
 use Rattle.afr_volume.proofs.TurnKeeps.{between}
+use Rattle.afr_law_picks.proofs.Kept.{one_among}
 
 -- what a client's line keeps of its pace
 pub record LinePaced (p : Plan) (a : ℕ) (log : List Line) (line : Line) (after : WorkMachine) : Type 0 where

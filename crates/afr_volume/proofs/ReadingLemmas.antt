@@ -9,10 +9,8 @@ use Rattle.afr_model.specs.Actors.{script_of}
 use Rattle.afr_plan.specs.declared.command.Command.{Command}
 use Rattle.afr_plan.specs.declared.command.Command.TheVariants as command
 use Rattle.afr_plan.specs.declared.plan.Plan.{Plan}
-use Rattle.afr_law_picks.specs.Laws.{IsPickedOf, KeepsPicked, number_in, picked_then}
+use Rattle.afr_law_picks.specs.Laws.{KeepsPicked, number_in, picked_then}
 use Rattle.afr_law_picks.specs.Readings.{asked_for_command, asked_in, asked_of, command_by, latest}
-use Rattle.afr_rule.specs.declared.candidate.Candidate.{Candidate}
-use Rattle.afr_client_walk.specs.Choosing.{IsAmong, reader_of}
 use Rattle.afr_client.specs.declared.work.WorkMachine.{WorkMachine}
 use Rattle.afr_volume.specs.Acting.{picked_after, still_picked}
 use Rattle.afr_volume.specs.Keeping.{IsReading}
@@ -29,15 +27,6 @@ picked_same false request now kept none = by (is_look request) none
     by : (look : Bool) → (look ≡ false → now ≡ None) → (if look then number_in now else None) ≡ number_in now
     by true none = refl
     by false none = sym (ap number_in (none refl))
-
--- one that was picked of these copies is among them
-nobody : (from : List Candidate) → from ≡ [] → 0 < length from → ⊥
-nobody [] e l = omega (arith, l)
-nobody (x ∷ from) e l = cc e
-
-pub one_among : (from : List Candidate) (picked : Option BrickId) → IsPickedOf from picked → IsAmong from (reader_of picked)
-one_among from None e = λ l. absurd (nobody from e l)
-one_among from (Some b) o = λ l. o
 
 -- ---- what was asked for, after a line
 -- a line of another leaves it
@@ -56,21 +45,6 @@ own_asked p a line log own = ap (λ (lines : Lines). asked_in p (command_by p a 
 
 pub asked_is : (p : Plan) (a : ℕ) (line : Line) (log : List Line) (command : Command) → is_of a line ≡ true → slice_get (script_of p a) (ended a log) ≡ Some command → asked_of p a (line ∷ log) ≡ asked_for_command p command ((line, log) ∷ work a log)
 asked_is p a line log command own present = own_asked p a line log own ∙ ap (λ (c : Option Command). asked_in p c ((line, log) ∷ work a log)) present
-
--- before its first line a work has asked for nothing
-pub asked_first : (p : Plan) (c : Command) → asked_for_command p c [] ≡ []
-asked_first p (command.Write path at bytes) = refl
-asked_first p (command.Cut path len) = refl
-asked_first p (command.Read path at len) = refl
-asked_first p (command.Create path) = refl
-asked_first p (command.Mkdir path) = refl
-asked_first p (command.Unlink path) = refl
-asked_first p (command.Rmdir path) = refl
-asked_first p (command.Ls path) = refl
-asked_first p (command.Stat path) = refl
-asked_first p (command.SetAttr path key value) = refl
-asked_first p (command.GetAttr path key) = refl
-asked_first p (command.Rename from to) = refl
 
 -- ---- a client whose line it isn't reads as it did
 pub reading_stays : (p : Plan) (c : ℕ) (line : Line) (log : List Line) (met : Bool) (picked : Option BrickId) (w : WorkMachine) → is_of c line ≡ false → work c (line ∷ log) ≡ work c log → ended c (line ∷ log) ≡ ended c log

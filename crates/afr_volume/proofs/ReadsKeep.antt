@@ -22,6 +22,7 @@ use Rattle.afr_law_picks.specs.Readings.{PickAnswers, asked_for_command, asked_o
 use Rattle.afr_rule.specs.Choosing.{Calls}
 use Rattle.afr_server.specs.Serving.{Serving}
 use Rattle.afr_law_picks.specs.Sources.Sources.{picks_of}
+use Rattle.afr_law_picks.proofs.Kept.{none_asked}
 use Rattle.afr_client.specs.Work as works
 use Rattle.afr_client.specs.Work.{IsBusy, choices_heard, next_of}
 use Rattle.afr_volume.specs.Acting.{HearsAny, HearsBy, IsAsked, IsBegun, IsEnded, Stepped, SteppedBy, picked_after, picked_by, picked_of, still_picked}
@@ -35,7 +36,7 @@ use Rattle.afr_volume.proofs.Before.{IsBefore}
 use Rattle.afr_volume.proofs.LineKeeps.{self}
 use Rattle.afr_volume.proofs.LogLemmas.{reverse_push}
 use Rattle.afr_volume.proofs.PickedLemmas.{here_set, other_set, picked_at, readied_picked, set_picked}
-use Rattle.afr_volume.proofs.ReadingLemmas.{asked_first, asked_is, other_asked, picked_same}
+use Rattle.afr_volume.proofs.ReadingLemmas.{asked_is, other_asked, picked_same}
 use Rattle.afr_volume.proofs.TurnKeeps.{carried}
 
 -- ---- whatever the rule was, the line is one that a work may write
@@ -90,7 +91,7 @@ module _ {G : Type 0} (calls : Calls G) (choose : G) (rules : RuleLaws calls cho
     where
       by_met : (met : Bool) → x.visit.met ≡ met → PickAnswers (picks_of calls choose) (asked_for_command p c.command (work a.0 log)) (number_in (still_picked met x.picked))
       by_met true e = subst (λ (from : List (ℕ × ℕ)). PickAnswers (picks_of calls choose) from (picked_by x)) (acting.reads.within e ∙ rw c.present refl) was
-      by_met false e = rw (acting.reads.fresh e) (asked_first p c.command)
+      by_met false e = rw (acting.reads.fresh e) (none_asked p c.command)
 
   -- a line that doesn't look asks it for nothing new
   still_answered : (line : Line) → is_look_line line ≡ false → PickAnswers (picks_of calls choose) (asked_for_command p c.command ((line, log) ∷ work a.0 log)) kept

@@ -33,7 +33,7 @@ use Rattle.afr_volume.specs.declared.turned.Turned.{Turned}
 use Rattle.afr_volume.specs.declared.turned.Turned.TheVariants.{Ended, Full, Moved, Waits}
 use Rattle.afr_volume.proofs.LineKeeps.{ends_none}
 use Rattle.afr_volume.proofs.LogLemmas.{reverse_push}
-use Rattle.afr_volume.proofs.PickedLemmas.{killed_picked, new_picked}
+use Rattle.afr_volume.proofs.PickedLemmas.{killed_picked, new_picked, other_set}
 use Rattle.afr_base.specs.declared.ids.What.{What}
 use Rattle.afr_model.specs.Crawl.{CanCrawl}
 use Rattle.afr_volume.specs.Tasks.{tasks_of}
@@ -129,13 +129,6 @@ client_turn crawl picks a old new Ended small h follows k = subst (HealsChosen p
 client_turn crawl picks a old new Full small h follows k = subst (HealsChosen picks) (sym h.2) k
 
 -- ---- a healer's line leaves the sources of the other healers
-other_set : (l : List (Option ℕ)) (i j : ℕ) (y : Option ℕ) → (i ≡ j → ⊥) → slice_get (slice_set l j y) i ≡ slice_get l i
-other_set [] i zero y other = refl
-other_set [] i (suc j) y other = refl
-other_set (x ∷ l) zero zero y other = absurd (other refl)
-other_set (x ∷ l) zero (suc j) y other = refl
-other_set (x ∷ l) (suc i) zero y other = refl
-other_set (x ∷ l) (suc i) (suc j) y other = other_set l i j y (λ same. other (ap suc same))
 
 pub healer_others : {crawl : Bool} (Hears : Hearing) (p : Plan) (a : ActorId) (at : ℕ) (healers readied new : List Healer) (bricks after : List Serving) (line : Line) → 17 ≤ a.0 → ReadiedHealerAt crawl p a.0 healers readied → StepsHealerAt Hears a at readied new bricks after line
     → (i : ℕ) → (17 + i ≡ a.0 → ⊥) → slice_get (sources_of new) i ≡ slice_get (sources_of healers) i

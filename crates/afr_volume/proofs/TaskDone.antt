@@ -4,6 +4,7 @@ use Rattle.std.proofs.lemmas.Bool.Decides.{nat_tests}
 use Rattle.std.specs.Prelude.{is_some, option_and_then}
 use Rattle.afr_base.specs.declared.ids.Gfid.{Gfid}
 use Rattle.afr_base.specs.declared.ids.What.{What}
+use Rattle.afr_base.proofs.TestLemmas.{neither_first}
 use Rattle.afr_heal_round.specs.Rounding.{Rounding}
 use Rattle.afr_healer.specs.declared.healer.Healer.{Healer}
 use Rattle.afr_lines.specs.Work.{ended, is_killed}
@@ -46,11 +47,7 @@ client_left a s client left = sym (client_done a s client) ∙ left
 
 -- ---- who is killed, and who isn't at a task
 pub not_killed_in : (a : ℕ) (s : State) → is_done_in a s ≡ false → is_killed a s.log ≡ false
-not_killed_in a s h = by (is_killed a s.log) (not (has_task a s) && nat_le (works_of s.plan a) (ended a s.log)) h
-  where
-    by : (x y : Bool) → (x || y) ≡ false → x ≡ false
-    by true y h = absurd (cc h)
-    by false y h = refl
+not_killed_in a s h = neither_first (is_killed a s.log) (not (has_task a s) && nat_le (works_of s.plan a) (ended a s.log)) h
 
 -- who isn't done and is at no task has work of the plan left
 pub left_by_plan : (a : ℕ) (s : State) → has_task a s ≡ false → is_done_in a s ≡ false → is_done s.plan a s.log ≡ false

@@ -1,6 +1,5 @@
 -- A line of a worker: its task goes on, or has ended with its item.
 use Rattle.std.proofs.Common.{◌≡◌, ◌∙◌, ℕ, zero, suc, ◌+◌, ◌≤◌, ◌==◌, Bool, true, false, List, [], ◌∷◌, Option, None, Some, if◌then◌else◌, refl, sym, ap, arith, subst, length, option_map, slice_get}
-use Rattle.std.proofs.lemmas.Bool.Decides.{nat_tests}
 use Rattle.std.specs.Prelude.{is_some}
 use Rattle.afr_base.specs.declared.ids.ActorId.{ActorId}
 use Rattle.afr_base.specs.declared.ids.BrickId.{BrickId}
@@ -8,6 +7,7 @@ use Rattle.afr_base.specs.declared.ids.Gfid.{Gfid}
 use Rattle.afr_base.specs.declared.ids.Kind.{Kind}
 use Rattle.afr_base.specs.declared.ids.What.{What}
 use Rattle.afr_base.specs.declared.ids.What.TheVariants.{Dir, File}
+use Rattle.afr_base.proofs.TestLemmas.{same_number}
 use Rattle.afr_heal.specs.Engine.{Ask as Asks, Begins, Ends as HealEnds, NextOfHeal}
 use Rattle.afr_heal_machine.specs.Healing.{Healing, coming, line_of}
 use Rattle.afr_heal_round.specs.List.Round.{RoundProgress, next_due}
@@ -88,9 +88,6 @@ pub data StepsTask (a : ℕ) (item : Gfid × What) (line : Line) (log : List Lin
   GoesOn : is_end line ≡ false → (m : Rounding) → y.round ≡ Some m → m.round.list ≡ Some (item ∷ []) → AreOfItem item (work a (line ∷ log)) → StepsTask a item line log y
   IsOver : is_end line ≡ true → y.round ≡ None → StepsTask a item line log y
 
-self : (n : ℕ) → (n == n) ≡ true
-self n = grind (arith, nat_tests)
-
 more_list : (flag : Bool) (r : RoundProgress) → (if flag then record r { given = r.given + 1 } else r).list ≡ r.list
 more_list true r = refl
 more_list false r = refl
@@ -113,9 +110,9 @@ module _ (p : Plan) (a : ActorId) (log : List Line) (servers new : List Serving)
       let now : y.round ≡ Some c.after = ap (λ (z : Healer). z.round) c.becomes in
       let list : c.after.round.list ≡ Some (t.item ∷ []) = ap (λ (m : Rounding). m.round.list) fed.2 ∙ t.list in
       GoesOn (ap is_end c.is_line) c.after now list (after_of c.after now fed.0 (ap (λ (m : Rounding). m.stage) fed.2) list)
-  by_coming h at due Begins c = GoesOn (ap is_end c.is_line) (begun (length log) s.round) (ap (λ (z : Healer). z.round) c.becomes) t.list (rw (c.is_line, self a.0) (due, t.of))
+  by_coming h at due Begins c = GoesOn (ap is_end c.is_line) (begun (length log) s.round) (ap (λ (z : Healer). z.round) c.becomes) t.list (rw (c.is_line, same_number a.0) (due, t.of))
   by_coming h at due HealEnds c =
-      GoesOn (ap is_end c.is_line) (healed s.round) (ap (λ (z : Healer). z.round) c.becomes) (more_list (is_some (next_due s.round.round)) s.round.round ∙ t.list) (rw (c.is_line, self a.0) (due, t.of))
+      GoesOn (ap is_end c.is_line) (healed s.round) (ap (λ (z : Healer). z.round) c.becomes) (more_list (is_some (next_due s.round.round)) s.round.round ∙ t.list) (rw (c.is_line, same_number a.0) (due, t.of))
 
   by_stage : (stage : RoundStage) → s.round.stage ≡ stage → StageStands carries.duty p a.0 log x.visit.met x.visit.epochs servers s.round.round stage → SteppedBy IsAnswered a (length log) x y s.round servers new line (next_at s.round.round.brick stage) → StepsTask a.0 t.item line log y
   by_stage (Asking heals) at stands c = absurd (let none : None ≡ Some (t.item ∷ []) = sym stands.1 ∙ t.list in cc none)

@@ -1,5 +1,5 @@
 -- A whole turn: its premises from what the volume keeps, and what it leaves.
-use Rattle.std.proofs.Common.{◌≡◌, ◌≢◌, ◌∙◌, ℕ, zero, suc, ◌+◌, ◌-◌, ◌<◌, ◌≤◌, ◌||◌, Bool, true, false, List, [], ◌∷◌, ◌++◌, refl, sym, ap, arith, subst, length, Option, Some, None, slice_get, set, reverse, nat_le, nat_lt, if◌then◌else◌}
+use Rattle.std.proofs.Common.{◌≡◌, ◌≢◌, ◌∙◌, ℕ, zero, suc, ◌+◌, ◌-◌, ◌<◌, ◌≤◌, ◌||◌, Bool, true, false, List, [], ◌∷◌, ◌++◌, refl, sym, ap, arith, subst, length, Option, Some, None, slice_get, set, reverse, nat_le, nat_lt, if◌then◌else◌, inl, inr}
 use Rattle.std.proofs.lemmas.Bool.Decides.{nat_tests}
 use Rattle.std.proofs.lemmas.List.{length-reverse}
 use Rattle.std.proofs.lemmas.Option.{slice_get_within}
@@ -31,27 +31,24 @@ use Rattle.afr_volume.specs.declared.turned.Turned.{Turned}
 use Rattle.afr_volume.specs.declared.turned.Turned.TheVariants.{Moved, Waits}
 use Rattle.afr_volume.proofs.LogLemmas.{reverse_push}
 use Rattle.afr_volume.proofs.Before.{IsBefore, client_is}
-use Rattle.afr_volume.proofs.HealersKeep.{differ, healers_stay}
+use Rattle.afr_volume.proofs.HealersKeep.{healers_stay}
 use Rattle.afr_volume.proofs.LineKeeps.{LineKeeps, Wrote, other_work, wrote_own}
 use Rattle.afr_volume.proofs.TaskLemmas.{others_crawl}
 use Rattle.afr_volume.proofs.ReadyLemmas.{script_is}
 use Rattle.afr_volume.proofs.TurnKeeps.{before_turn, can_step, got_same, kept_ready, kept_turn, line_keeps}
-use Rattle.std.proofs.Common.{inl, inr}
+use Rattle.std.proofs.lemmas.Bool.{or_parts, ne_eqb}
 use Rattle.afr_base.specs.declared.ids.Gfid.{Gfid}
 use Rattle.afr_base.specs.declared.ids.What.{What}
 use Rattle.afr_volume.specs.Tasks.{is_done_in}
 
 -- ---- the premises
-or_false : (x y : Bool) → (x || y) ≡ false → (x ≡ false) × (y ≡ false)
-or_false true y h = absurd (cc h)
-or_false false y h = (refl, h)
 
 pub not_killed : (p : Plan) (a : ℕ) (log : List Line) → is_done p a log ≡ false → is_killed a log ≡ false
-not_killed p a log h = (or_false (is_killed a log) _ h).0
+not_killed p a log h = (or_parts (is_killed a log) _ h).0
 
 pub work_left : (p : Plan) (a : ℕ) (log : List Line) → a ≤ 16 → is_done p a log ≡ false → ended a log < length (script_of p a)
 work_left p a log small h =
-    let k : nat_le (works_of p a) (ended a log) ≡ false = (or_false (is_killed a log) _ h).1 in
+    let k : nat_le (works_of p a) (ended a log) ≡ false = (or_parts (is_killed a log) _ h).1 in
     let few : nat_lt 16 a ≡ false = grind (arith, nat_tests, small) in
     let works : works_of p a ≡ length (script_of p a) = rw few refl in
     let m : nat_le (length (script_of p a)) (ended a log) ≡ false = rw works at k in
@@ -145,7 +142,7 @@ module _ {crawl : Bool} (laws : Laws) (starts : BeginLaws) (p : Plan) (a : Actor
     healing = subst (λ (log : List Line). AreHealers crawl p log new_servers healers) (sym t.log) (healers_stay rounds p a line (reverse items) servers new_servers healers client t.wrote t.stands t.found k);
     pacing = paced;
     crawling = λ crawls. subst (λ (log : List Line). AreCrawling p log healers) (sym t.log)
-        (others_crawl p line (reverse items) healers (λ c low. other_work a c line (reverse items) t.wrote (differ a.0 c (λ same. absurd (omega (arith, client, low, same))))) (crawling crawls));
+        (others_crawl p line (reverse items) healers (λ c low. other_work a c line (reverse items) t.wrote (ne_eqb a.0 c (λ same. absurd (omega (arith, client, low, same))))) (crawling crawls));
   }
 
   pub took : (at : ℕ) (added : List Line) (new_actors : List Actor) (new_servers : List Serving) (line : Line) → is_done p a.0 (reverse items) ≡ false → due_at p (reverse items) ≡ None → at ≡ length items

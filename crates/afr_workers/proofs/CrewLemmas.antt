@@ -3,6 +3,7 @@ use Rattle.std.proofs.Common.{◌≡◌, ◌≢◌, ◌∙◌, ℕ, zero, suc, �
 use Rattle.std.specs.Prelude.{is_some, option_and_then}
 use Rattle.std.proofs.lemmas.Bool.Decides.{eqb_tells, nat_tests}
 use Rattle.afr_base.specs.declared.ids.ActorId.{ActorId}
+use Rattle.afr_base.proofs.TestLemmas.{neither_second}
 use Rattle.afr_lines.specs.Work.{ended, is_end, is_killed, is_of, kills, work}
 use Rattle.afr_lines.specs.declared.line.Line.{Line}
 use Rattle.afr_lines.specs.declared.line.Line.TheVariants.{Ask, Begin, End, Event, HealBegin, HealEnd}
@@ -222,12 +223,8 @@ event_proceeds old new h =
     (record {
       lists = Stays;
       given = λ c worker. refl;
-      lives = λ c alive. lived (kills c (Event h.event)) (is_killed c old.log) alive;
+      lives = λ c alive. neither_second (kills c (Event h.event)) (is_killed c old.log) alive;
     })
-  where
-    lived : (x y : Bool) → (x || y) ≡ false → y ≡ false
-    lived true y e = absurd (cc e)
-    lived false y e = e
 
 pub event_placed : (old new : State) (h : Comes old new) (crew : Crew) → IsPlaced crew old → IsPlaced (noted h.event crew) new
 event_placed old new h crew k =

@@ -2,6 +2,7 @@
 use Rattle.std.proofs.Common.{◌≡◌, ◌≢◌, ◌∙◌, ◌⊎◌, ℕ, zero, suc, ◌+◌, ◌<◌, ◌≤◌, ◌==◌, ◌||◌, ◌&&◌, ◌++◌, not, nat_le, nat_lt, Bool, true, false, List, [], ◌∷◌, Option, None, Some, if◌then◌else◌, inl, inr, refl, sym, ap, append_assoc, arith, subst, length, map, replicate, slice_get}
 use Rattle.std.proofs.lemmas.Bool.Decides.{eqb_tells, nat_tests}
 use Rattle.std.proofs.lemmas.List.{append-nil}
+use Rattle.std.proofs.lemmas.Bool.{or_right}
 use Rattle.afr_base.specs.declared.ids.ActorId.{ActorId}
 use Rattle.afr_crowd.specs.declared.held.Held.{Held}
 use Rattle.afr_lines.specs.Work.{ended, events_made, is_killed, is_of, kills}
@@ -76,15 +77,11 @@ event_lasts old new h =
     let room = due_room old.plan old.log h.event h.is_due in
     subst (λ (s : State). Lasts old s) (sym h.added)
     (record {
-      dead = λ c k. more (kills c (Event h.event)) (is_killed c old.log) k;
+      dead = λ c k. or_right (kills c (Event h.event)) (is_killed c old.log) k;
       full = λ full. absurd (omega (arith, full, room));
       over = over room;
     })
   where
-    more : (x y : Bool) → y ≡ true → (x || y) ≡ true
-    more true y e = refl
-    more false y e = e
-
     wider : (x y z : Bool) → (y || z) ≡ true → ((x || y) || z) ≡ true
     wider true y z e = refl
     wider false y z e = e

@@ -1,6 +1,6 @@
 -- The next line of a removal is one that the discipline allows.
-use Rattle.std.proofs.Common.{◌⊎◌, ◌≡◌, ℕ, ◌<◌, ◌&&◌, ◌||◌, not, ◌==◌, nat_lt, arith, Bool, true, false, List, [], ◌∷◌, refl, sym, ◌∙◌, ap, subst, inl, inr, Option, None, Some, if◌then◌else◌}
-use Rattle.std.proofs.lemmas.Bool.Decides.{nat_tests}
+use Rattle.std.proofs.Common.{◌⊎◌, ◌≡◌, ℕ, ◌<◌, ◌&&◌, ◌||◌, not, ◌==◌, arith, Bool, true, false, List, [], ◌∷◌, refl, sym, ◌∙◌, ap, subst, inl, inr, Option, None, Some, if◌then◌else◌}
+use Rattle.std.proofs.lemmas.Bool.{ltb-true}
 use Rattle.afr_base.specs.Bricks.{lowest, member, is_nothing}
 use Rattle.afr_base.specs.Majority.{is_majority}
 use Rattle.afr_base.specs.SetLemmas.{lowest_in, lowest_left}
@@ -201,9 +201,6 @@ asked_is m b q more away e = go (sym (next_asks m.stage m more away) ∙ e)
 -- and of one of the five bricks
 pub asked_small : (m : Removing) → Sound m → (b : BrickId) (q : Request) → next_at m.stage m ≡ next.Ask b q → b.0 < 5
 asked_small m s b q e =
-    let below : b.0 < m.register.shape.n = test_lt _ _ (both _ _ (subst (λ (line : Next). allowed m.register line ≡ true) e (allowed_at m s m.stage s.during s.ready))).0 in
+    let below : b.0 < m.register.shape.n = ltb-true _ _ (both _ _ (subst (λ (line : Next). allowed m.register line ≡ true) e (allowed_at m s m.stage s.during s.ready))).0 in
     let few = s.base.few in
     omega (arith, below, few)
-  where
-    test_lt : (a b : ℕ) → nat_lt a b ≡ true → a < b
-    test_lt a b h = grind (arith, nat_tests, h)

@@ -1,10 +1,12 @@
 -- Small facts of removals: the change, the sets, and who is asked.
-use Rattle.std.proofs.Common.{◌≡◌, ℕ, zero, suc, ◌<◌, ◌&&◌, ◌||◌, not, ◌==◌, Bool, true, false, List, refl, sym, ◌∙◌, ap, subst, arith, inl, inr, Option, None, Some}
-use Rattle.std.proofs.lemmas.Bool.Decides.{eqb_tells}
+use Rattle.std.proofs.Common.{◌≡◌, ℕ, zero, suc, ◌<◌, ◌&&◌, ◌||◌, not, ◌==◌, Bool, true, false, List, refl, sym, ◌∙◌, ap, subst, arith, Option, None, Some}
+use Rattle.std.proofs.lemmas.Bool.{or_left}
+use Rattle.std.proofs.Math.Bool.{and-false}
 use Rattle.afr_base.specs.Bricks.{common, lowest, member, minus, is_nothing}
 use Rattle.afr_base.specs.SetLemmas.{lowest_left, member_minus}
 use Rattle.afr_base.specs.declared.ids.Gfid.{Gfid}
 use Rattle.afr_base.specs.declared.ids.Kind.TheVariants.{Names}
+use Rattle.afr_base.proofs.TestLemmas.{unless_then}
 use Rattle.afr_object.specs.declared.change.Change.{Change}
 use Rattle.afr_object.specs.declared.change.Change.TheVariants.{Write, Cut, SetAttr, Make, Remove}
 use Rattle.afr_choice.specs.VerdictLemmas.{good_are_holders, holders_are_reached}
@@ -13,6 +15,7 @@ use Rattle.afr_lines.specs.declared.request.Area.{Area}
 use Rattle.afr_lines.specs.declared.request.Area.TheVariants.{Name}
 use Rattle.afr_model_moves.specs.Rules.{busy, is_area}
 use Rattle.afr_model_moves.specs.Sets.{any}
+use Rattle.afr_model_moves.proofs.Tests.{some_no}
 use Rattle.afr_discipline.specs.Stands.{seen_as}
 use Rattle.afr_discipline.specs.declared.register.Register.{Register}
 use Rattle.afr_client_transaction.specs.Sound.{Shown, Suits}
@@ -39,11 +42,7 @@ of_names (Make dir name g what) k = absurd k
 
 -- the name's area isn't the whole of any directory
 pub apart : (change : Change) → IsRemoval change → (area : Option Area) (g : Gfid) → area ≡ Some (area_for change) → is_area area (Name g None) ≡ false
-apart (Remove dir name what) k area g e = subst (λ (o : Option Area). is_area o (Name g None) ≡ false) (sym e) (never (dir.0 == g.0))
-  where
-    never : (x : Bool) → (x && false) ≡ false
-    never true = refl
-    never false = refl
+apart (Remove dir name what) k area g e = subst (λ (o : Option Area). is_area o (Name g None) ≡ false) (sym e) (and-false (dir.0 == g.0))
 apart (Write g at bytes) k area h e = absurd k
 apart (Cut g len) k area h e = absurd k
 apart (SetAttr g key value) k area h e = absurd k
@@ -51,11 +50,7 @@ apart (Make dir name g what) k area h e = absurd k
 
 -- ---- sets
 pub common_left : (s t : List ℕ) (b : ℕ) → member (common s t) b ≡ true → member s b ≡ true
-common_left s t b m = go (member (minus s t) b) (member s b) (sym (member_minus s (minus s t) b) ∙ m)
-  where
-    go : (x y : Bool) → (not x && y) ≡ true → y ≡ true
-    go true y h = absurd (cc h)
-    go false y h = h
+common_left s t b m = unless_then (member (minus s t) b) (member s b) (sym (member_minus s (minus s t) b) ∙ m)
 
 pub common_right : (s t : List ℕ) (b : ℕ) → member (common s t) b ≡ true → member t b ≡ true
 common_right s t b m = go (member t b) (member s b) (ap (λ (x : Bool). not x && member s b) (sym (member_minus s t b)) ∙ sym (member_minus s (minus s t) b) ∙ m)
@@ -78,25 +73,5 @@ look_asked m e = common_left m.register.held m.register.second_held _ (lowest_le
 pub list_asked : (m : Removing) → Shown m.register.shape.n m.child.looked → member (sources m) m.child.reader.0 ≡ true → m.child.reader.0 < m.register.shape.n
 list_asked m k e = k.reached _ (holders_are_reached m.child.looked _ (good_are_holders m.register.shape m.child.looked Names _ e))
 
--- some name's lock is held
-any_at : (n : ℕ) (p : ℕ → Bool) (s : ℕ) → s < n → p s ≡ true → any n p ≡ true
-any_at zero p s l h = absurd (omega (arith, l))
-any_at (suc n) p s l h = elim (eqb_tells s n) [
-  | inl e ↦ either (p n) (any n p) (subst (λ (x : ℕ). p x ≡ true) e.1 h)
-  | inr e ↦ other (p n) (any n p) (any_at n p s (let d = e.1 in grind (arith, d, l)) h)
-]
-  where
-    either : (x y : Bool) → x ≡ true → (x || y) ≡ true
-    either true y e = refl
-    either false y e = absurd (cc e)
-
-    other : (x y : Bool) → y ≡ true → (x || y) ≡ true
-    other true y e = refl
-    other false y e = e
-
 pub is_busy : (r : Register) (b : ℕ) → b < r.shape.n → member r.held b ≡ true → busy r.shape.n (seen_as r).law ≡ true
-is_busy r b small m = left_one (any r.shape.n (member r.held)) (any r.shape.n (member r.second_held)) (any_at r.shape.n (member r.held) b small m)
-  where
-    left_one : (x y : Bool) → x ≡ true → (x || y) ≡ true
-    left_one true y e = refl
-    left_one false y e = absurd (cc e)
+is_busy r b small m = or_left (any r.shape.n (member r.held)) (any r.shape.n (member r.second_held)) (some_no r.shape.n (member r.held) b small m)

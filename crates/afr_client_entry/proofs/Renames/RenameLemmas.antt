@@ -1,5 +1,6 @@
 -- A rename stays sound, whatever is heard, its register notes each line, and the discipline allows what it asks.
 use Rattle.std.proofs.Common.{◌≡◌, ℕ, ◌-◌, ◌<◌, ◌≤◌, ◌&&◌, not, suc, zero, Bool, true, false, List, [], Some, None, length, slice_get, refl, sym, ap, subst, ◌∙◌, arith, inl, inr, if◌then◌else◌}
+use Rattle.std.proofs.lemmas.Bool.{and_parts}
 use Rattle.afr_base.specs.Bricks.{is_nothing, lowest}
 use Rattle.afr_base.specs.Majority.{is_majority}
 use Rattle.afr_base.specs.declared.ids.BrickId.{BrickId}
@@ -67,7 +68,7 @@ use Rattle.afr_client_entry.proofs.Renames.UnderLemmas.{allowed_under, begun_kep
 
 -- ---- the walks
 -- an answer leaves the path, and the bricks
-walked_path : (chosen : BrickId) (a : Answer) (at : ℕ) (w : Walk) → (walked chosen a at w).path ≡ w.path
+pub walked_path : (chosen : BrickId) (a : Answer) (at : ℕ) (w : Walk) → (walked chosen a at w).path ≡ w.path
 walked_path chosen a at w = go w.step a
   where
     go : (step : WalkStep) (a : Answer) → (walked_at chosen step a (noted (next_in w) (told_by a) at w)).path ≡ w.path
@@ -175,9 +176,6 @@ is_after_first x k = go x.first.step refl
     go (walking.Stopped why) e = tt
 
 -- ---- the turn
-both_true : (o a : Bool) → (o && a) ≡ true → (o ≡ true) × (a ≡ true)
-both_true true a e = (refl, e)
-both_true false a e = absurd (cc e)
 
 pub over_not_done : (o d : Bool) → (o && not d) ≡ false → d ≡ false → o ≡ false
 over_not_done true true e f = absurd (cc f)
@@ -198,7 +196,7 @@ some_bricks (suc n) s e = omega arith
 -- it is over, acknowledged, and of some bricks
 pub done_is : (t : TransactionProgress) → Sound t → is_done t ≡ true → (progress.is_over t.stage t ≡ true) × (outcome_of t.change t.register ≡ outcome.Acknowledged) × (0 < t.register.shape.n)
 done_is t s e =
-    let b = both_true (progress.is_over t.stage t) (is_acknowledged (outcome_of t.change t.register)) e in
+    let b = and_parts (progress.is_over t.stage t) (is_acknowledged (outcome_of t.change t.register)) e in
     let o = acknowledged_is (outcome_of t.change t.register) b.1 in
     (b.0, o, some_bricks t.register.shape.n t.register.post ((acknowledged_exactly t s).1 o))
 
@@ -210,7 +208,7 @@ locked_waits y = go (is_nothing (left Locking y)) (is_majority y.register.shape.
     go true false = refl
     go false most = refl
 
-after_lock : (told : Told) (at : ℕ) (t : TransactionProgress) → is_beginning (fed Locking told at t).stage ≡ false
+pub after_lock : (told : Told) (at : ℕ) (t : TransactionProgress) → is_beginning (fed Locking told at t).stage ≡ false
 after_lock told at t = locked_waits (answered_by Locking (lowest (left Locking t)) told at t)
 
 -- with its first lock the second transaction is as sound as a first one

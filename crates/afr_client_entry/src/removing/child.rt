@@ -1,7 +1,6 @@
 //! The directory that is removed: what was asked of it under its lock.
 ghost use Rattle.std.specs.Prelude.{◌≡◌, ◌<◌, ◌≤◌};
 ghost use Rattle.afr_base.specs.Bricks.{added, common};
-ghost use Rattle.afr_choice.specs.Verdict.{holders_of};
 ghost use Rattle.afr_model_moves.specs.Note.{is_held};
 ghost use Rattle.afr_client_entry.specs.Removals.Removal.{both_held, child_after, takers_of, untouched, whole};
 ghost use Rattle.afr_client_entry.specs.declared.removing.stage.RemovalStage.{RemovalStage};

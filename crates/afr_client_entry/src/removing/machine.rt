@@ -1,7 +1,5 @@
 //! One removal: what it asks next, and what an answer leaves of it.
 ghost use Rattle.std.specs.Prelude.{[], None, Ok, Some, ◌≡◌, ◌<◌, ◌≤◌, ◌+◌, ◌^◌, true, false};
-ghost use Rattle.afr_base.specs.Bricks.{is_nothing};
-ghost use Rattle.afr_model_moves.specs.Register.{span};
 ghost use Rattle.afr_client_entry.specs.Entry.{removal_begun};
 ghost use Rattle.afr_client_entry.specs.Removals.Removal.{CarriesAt, answered, brick_at, choices_at, is_beginning, is_over, left, next_at, removing, request_at, stage_after};
 ghost use Rattle.afr_client_entry.specs.Removals.Sound.{IsAsking, IsBase, IsRemoval, IsUnbegun, Sound};

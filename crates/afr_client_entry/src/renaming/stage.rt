@@ -1,11 +1,9 @@
 //! The stages of a rename, and what an answer makes of each.
 ghost use Rattle.std.specs.Prelude.{◌≡◌, ◌<◌, ◌≤◌, false, not, true, IfOk};
-ghost use Rattle.afr_lines.specs.Told.{told_by};
 ghost use Rattle.afr_lines.specs.declared.line.Next.{Next};
 ghost use Rattle.afr_client_entry.specs.Renames.Rename.{IsRename, IsSound, after_first, after_second, at_directory, choices_at, is_done, is_over, next_at, paths_after, second_begun, stage_after, stage_begun, turned_anew};
 ghost use Rattle.afr_client_entry.specs.Renames.Paths.{IsPaths};
 ghost use Rattle.afr_rule.specs.Choosing.{IsRule};
-ghost use Rattle.afr_client_transaction.specs.Progress as progress;
 ghost use Rattle.afr_client_walk.specs.Choosing.{RuleAnswers, reader_of};
 ghost use Rattle.afr_client_walk.specs.Walk.{is_walking};
 

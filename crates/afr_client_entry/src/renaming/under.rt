@@ -1,7 +1,6 @@
 //! One of a rename's transactions: under the locks of a name this is read before the change is begun.
 ghost use Rattle.std.specs.Prelude.{◌≡◌, ℕ, false, true, Some, None};
 ghost use Rattle.afr_lines.specs.Areas.{kind_for};
-ghost use Rattle.afr_client_entry.specs.Entry.{found_by, offered, settled};
 ghost use Rattle.afr_client_entry.specs.Renames.Under.{IsUnder, choices_under, found_after, next_under, progress_after};
 ghost use Rattle.afr_rule.specs.Choosing.{IsRule};
 ghost use Rattle.afr_client_transaction.specs.Between.{is_read};
@@ -10,10 +9,11 @@ ghost use Rattle.afr_client_transaction.specs.Progress.{is_beginning};
 ghost use Rattle.afr_client_walk.specs.Choosing.{RuleAnswers, reader_of};
 ghost use Rattle.afr_discipline.specs.Free.{is_ask};
 
+use crate::stage::{hears, picked_under, settle};
 use crate::{Found, Refusal};
-use afr_base::{BrickId, Kind};
+use afr_base::BrickId;
 use afr_client_transaction::Transaction;
-use afr_client_walk::{pick, reader_of};
+use afr_client_walk::reader_of;
 use afr_lines::{Next, Request, Told};
 use afr_rule::{Candidate, ReadRule};
 
@@ -81,15 +81,6 @@ pub(crate) fn heard_under<G: Fn(&[Candidate]) -> usize>(
     }
 }
 
-/// The transaction hears what it asked.
-fn hears(transaction: &mut Transaction, brick: BrickId, request: &Request, told: &Told, at: u32)
-    requires { progress.next_at transaction.old.stage at transaction.old ≡ Next.Ask brick request.now }
-    ensures asked { is_beginning transaction.old.stage ≡ false }
-    ensures value { transaction.new ≡ progress.fed transaction.old.stage told.now at transaction.old }
-{
-    transaction.hear(brick, request, told, at);
-}
-
 fn unread_heard<G: Fn(&[Candidate]) -> usize>(
     transaction: &mut Transaction,
     reader: BrickId,
@@ -119,36 +110,4 @@ fn unread_heard<G: Fn(&[Candidate]) -> usize>(
     }
     transaction.note_read(brick, request, told, at);
     (settle(transaction, why), None)
-}
-
-/// Once the looks under the locks are over the rule picks the copy of the directory that is asked for the name.
-fn picked_under<G: Fn(&[Candidate]) -> usize>(
-    transaction: &Transaction,
-    rule: &ReadRule<G>,
-) -> Option<BrickId>
-    requires rule { IsRule G.Fn rule.now }
-    requires names { kind_for transaction.now.change ≡ Kind.Names }
-    ensures { RuleAnswers G.Fn rule.now (offered transaction.now) result }
-{
-    if !transaction.is_beginning() {
-        return None;
-    }
-    transaction.stays_sound();
-    let r = transaction.register();
-    Some(pick(&r.shape, &r.looked, Kind::Names, rule))
-}
-
-/// A change that is ruled out is given up.
-fn settle(transaction: &mut Transaction, why: Option<Refusal>) -> Found
-    requires { is_beginning transaction.old.stage ≡ true }
-    ensures transaction { transaction.new ≡ settled why transaction.old }
-    ensures found { result ≡ found_by why }
-{
-    match why {
-        Some(why) => {
-            transaction.give_up();
-            Found::Refused(why)
-        }
-        None => Found::Fits,
-    }
 }

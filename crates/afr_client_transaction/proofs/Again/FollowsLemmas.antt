@@ -1,5 +1,6 @@
 -- The first lock of another transaction is allowed, and the transaction is sound after it.
 use Rattle.std.proofs.Common.{◌≡◌, ℕ, ◌<◌, ◌||◌, ◌&&◌, not, Bool, true, false, [], refl, ◌∙◌, ap, if◌then◌else◌, inr}
+use Rattle.std.proofs.lemmas.Bool.{or_right}
 use Rattle.afr_base.specs.Bricks.{below, lowest}
 use Rattle.afr_base.specs.SetLemmas.{lowest_left, within_below}
 use Rattle.afr_object.specs.declared.change.Change.{Change}
@@ -21,10 +22,6 @@ use Rattle.afr_client_transaction.proofs.Again.AgainLemmas.{again_same, new_same
 -- somebody is there to ask
 first_below : (m : TransactionProgress) (change : Change) → Sound (starting change (opened m.register.shape)) → lowest (left Locking (starting change m.register)) < m.register.shape.n
 first_below m change s = within_below m.register.shape.n _ (lowest_left (below m.register.shape.n) [] s.ready).1
-
-or_right : (a b : Bool) → b ≡ true → (a || b) ≡ true
-or_right true b e = refl
-or_right false b e = e
 
 by_busy : (w x y : Bool) → w ≡ false → y ≡ true → (if w then x else y) ≡ true
 by_busy true x y e f = absurd (cc e)

@@ -33,7 +33,7 @@ use Rattle.afr_law.proofs.Alike.Units.{Step, Still, Raises, Lowers, Takes, Takes
 use Rattle.afr_model_moves.proofs.Tests.{same_self, three_cases, same_kind_self, four_parts, same_kind_yes, positive}
 use Rattle.std.proofs.lemmas.Bool.{eqb-true, or_cases, ltb-true}
 
-equal_is : (x p : ℕ) → (x == p) ≡ true → p ≡ x
+pub equal_is : (x p : ℕ) → (x == p) ≡ true → p ≡ x
 equal_is x p e = grind (arith, nat_tests)
 
 -- an attempt has one object and kind

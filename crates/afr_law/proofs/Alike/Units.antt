@@ -4,6 +4,7 @@ use Rattle.std.specs.Prelude.{◌==◌, nat_lt, if◌then◌else◌}
 use Rattle.std.proofs.lemmas.Bool.Decides.{nat_tests}
 use Rattle.afr_base.specs.Majority.{count_below}
 use Rattle.std.proofs.lemmas.Bool.{cases_lt, lt-ltb, le-ltb}
+use Rattle.std.proofs.Math.Bool.{and-false}
 use Rattle.afr_base.specs.Bricks.{and_left}
 use Rattle.afr_model_moves.proofs.Tests.{same_self, same_no}
 use Rattle.afr_base.specs.SetLemmas.{count_same}
@@ -43,16 +44,12 @@ keep_not : (b : Bool) → (b && not false) ≡ b
 keep_not true = refl
 keep_not false = refl
 
-drop : (b : Bool) → (b && false) ≡ false
-drop true = refl
-drop false = refl
-
 or_out : (a b c : Bool) → (a && not (b || c)) ≡ ((a && not b) && not c)
 or_out true true c = refl
 or_out true false c = refl
 or_out false b c = refl
 
-differ_over : (p t : ℕ) → t < p → (p == t) ≡ false
+pub differ_over : (p t : ℕ) → t < p → (p == t) ≡ false
 differ_over p t h = grind (arith, nat_tests)
 
 -- one for true
@@ -92,7 +89,7 @@ split_at (suc n) l f low =
     elim (cases_lt n l) [
       | inl last ↦ (
           let e : l ≡ suc n = omega (arith, low, last) in
-          let none : count_below (suc n) (λ x. f x && not (nat_lt x l)) ≡ count_below (suc n) (λ x. false) = count_same (suc n) (λ x. f x && not (nat_lt x l)) (λ x. false) (λ x below. rw (lt-ltb x l (omega (arith, below, e))) (drop (f x))) in
+          let none : count_below (suc n) (λ x. f x && not (nat_lt x l)) ≡ count_below (suc n) (λ x. false) = count_same (suc n) (λ x. f x && not (nat_lt x l)) (λ x. false) (λ x below. rw (lt-ltb x l (omega (arith, below, e))) (and-false (f x))) in
           let whole : count_below l f ≡ count_below (suc n) f = ap (λ k. count_below k f) e in
           omega (arith, none, nothing (suc n), whole)
           )

@@ -39,7 +39,7 @@ pub record WorkLocked (n : ℕ) (w s : Register) (b : ℕ) (area : Area) (gone :
   pub lost : gone ≡ true → s.held b ≡ false
   pub healing : (x : ℕ) → w.healing x ≡ true → ((gone ≡ true) × (x ≡ b)) ⊎ (s.healing x ≡ true)
 
-without_here : (set : ℕ → Bool) (b : ℕ) → without set b b ≡ false
+pub without_here : (set : ℕ → Bool) (b : ℕ) → without set b b ≡ false
 without_here set b = grind (arith, nat_tests)
 
 pub without_or : (set : ℕ → Bool) (b x : ℕ) → set x ≡ true → (x ≡ b) ⊎ (without set b x ≡ true)

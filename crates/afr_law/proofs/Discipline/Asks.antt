@@ -1,6 +1,6 @@
 -- What a request leaves of the register of the law.
 use Rattle.afr_model_moves.specs.Steps.{other}
-use Rattle.afr_model_moves.specs.Rules.{busy, is_area, is_none}
+use Rattle.afr_model_moves.specs.Rules.{busy, is_area, is_none, Register}
 use Rattle.afr_model_moves.specs.Past.{is_gone}
 use Rattle.afr_model_moves.specs.Sets.{with, without}
 use Rattle.afr_lines.specs.declared.answer.Told.{Told}
@@ -13,7 +13,6 @@ use Rattle.afr_lines.specs.declared.lock.Domain.TheVariants.{Heal, Work}
 use Rattle.std.proofs.Common.{Bool, false, inl, inr, not, refl, subst, sym, true, true≢false, ℕ, ◌&&◌, ◌∙◌, ◌≡◌, ◌⊎◌}
 use Rattle.std.specs.Prelude.{Option, Some, if◌then◌else◌, ◌==◌}
 use Rattle.afr_model_moves.specs.Rules as weak
-use Rattle.afr_model_moves.specs.Rules.{Register}
 use Rattle.afr_law.proofs.Safety.Standing.{Noted, noted, Grants, Waits, Frees, Tries, HealGrants, HealWaits, HealFrees, HealTries, Looks, Pres, Applies, Posts, Mends, Settles, Same}
 use Rattle.afr_model_moves.proofs.Tests.{without_in}
 

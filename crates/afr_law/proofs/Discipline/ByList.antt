@@ -12,8 +12,7 @@ use Rattle.afr_object.specs.declared.change.Change.{Change}
 use Rattle.afr_object.specs.declared.change.Change.TheVariants.{Cut, Make, Remove, SetAttr, Write}
 use Rattle.std.proofs.Common.{Bool, [], arith, false, inl, inr, length, refl, subst, suc, sym, true, zero, ℕ, ◌<◌, ◌∙◌, ◌∷◌, ◌≡◌, ◌≤◌}
 use Rattle.std.proofs.lemmas.Bool.Decides.{nat_tests}
-use Rattle.std.specs.Prelude.{None, Option, Some, nat_lt, ◌==◌}
-use Rattle.std.specs.Prelude.{List as Seq}
+use Rattle.std.specs.Prelude.{None, Option, Some, nat_lt, ◌==◌, List as Seq}
 use Rattle.afr_model_moves.specs.Cells.{Entry}
 use Rattle.afr_model_moves.specs.Discipline.{exact, exact_after, present, in_force, MayExactly, HasRead, EndsWork, MakesKnown, BeginsKnown, NumbersInRange, LawfulExactly}
 use Rattle.std.proofs.lemmas.Bool.{eqb-true, ltb-true, ltb-false}

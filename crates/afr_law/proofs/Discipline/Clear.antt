@@ -6,7 +6,7 @@ use Rattle.afr_model_moves.specs.Note.{left_outside, put, stay}
 use Rattle.afr_model_moves.specs.Register.{Exact, IsArea, Open, is_on}
 use Rattle.afr_model_moves.specs.Steps.{other}
 use Rattle.afr_model_moves.specs.Transaction.{LiesIn, MayWork, Outside}
-use Rattle.afr_model_moves.specs.Rules.{busy, fits_change, is_area, no_views, unlocked}
+use Rattle.afr_model_moves.specs.Rules.{busy, fits_change, is_area, no_views, unlocked, Register}
 use Rattle.afr_model_moves.specs.Lines.{ask_by, begin_by, look_at}
 use Rattle.afr_model_moves.specs.Past.{Log, is_gone}
 use Rattle.afr_model_moves.specs.Sets.{empty, with, without}
@@ -22,7 +22,6 @@ use Rattle.std.proofs.Common.{Bool, arith, false, inl, inr, not, refl, subst, su
 use Rattle.std.proofs.lemmas.Bool.Decides.{nat_tests}
 use Rattle.std.specs.Prelude.{None, Option, Some, if◌then◌else◌, ◌==◌}
 use Rattle.afr_model_moves.specs.Rules as weak
-use Rattle.afr_model_moves.specs.Rules.{Register}
 use Rattle.afr_base.specs.Bricks.{and_left}
 use Rattle.afr_model_moves.proofs.Tests.{with_more, with_self, no_number}
 

@@ -8,7 +8,7 @@ use Rattle.afr_model_moves.specs.Register.{Exact, Finish, HealLocks, HealPart, H
 use Rattle.afr_model_moves.specs.Steps.{after_unlocks, is_lowest, is_next, locks_at, may_heal, may_heal_work}
 use Rattle.afr_model_moves.specs.Transaction.{Outside}
 use Rattle.afr_law.proofs.Discipline.Inner.{Inner, inner_asked, inner_begin, lock_held}
-use Rattle.afr_model_moves.specs.Rules.{no_views, unlocked}
+use Rattle.afr_model_moves.specs.Rules.{no_views, unlocked, Register, is_area, is_none}
 use Rattle.afr_model_moves.specs.Lines.{ask_by}
 use Rattle.afr_model_moves.specs.Past.{Log, held, is_gone, last}
 use Rattle.afr_law.proofs.Discipline.Projection.{along_now}
@@ -27,7 +27,6 @@ use Rattle.afr_lines.specs.declared.lock.Domain.TheVariants.{Heal, Work}
 use Rattle.std.proofs.Common.{Bool, ap, arith, false, inl, inr, not, refl, subst, suc, sym, true, true≢false, ℕ, ◌&&◌, ◌||◌, ◌∙◌, ◌≡◌, ◌≤◌, ◌⊎◌}
 use Rattle.std.specs.Prelude.{None, Option, Some, if◌then◌else◌, ◌==◌}
 use Rattle.afr_model_moves.specs.Rules as weak
-use Rattle.afr_model_moves.specs.Rules.{Register, is_area, is_none}
 use Rattle.afr_model_moves.specs.Discipline.{MayAskExactly, MayExactly, MovesExactly, note, present}
 use Rattle.std.proofs.lemmas.Bool.{or_parts, eqb-true}
 use Rattle.afr_base.specs.Bricks.{and_left}

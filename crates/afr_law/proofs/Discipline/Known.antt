@@ -49,8 +49,7 @@ use Rattle.afr_object.specs.declared.entry.Entry.{Entry as NameEntry}
 use Rattle.afr_object.specs.Object.{Object}
 use Rattle.afr_plan.specs.declared.plan.Plan.{Plan}
 use Rattle.std.proofs.Common.{Bool, [], ap, arith, inl, inr, length, refl, subst, suc, sym, true, ℕ, ◌+◌, ◌<◌, ◌∙◌, ◌∷◌, ◌≡◌, ◌≤◌}
-use Rattle.std.specs.Prelude.{None, Option, Some}
-use Rattle.std.specs.Prelude.{List as Seq}
+use Rattle.std.specs.Prelude.{None, Option, Some, List as Seq}
 use Rattle.afr_base.specs.Bricks.{and_left, and_right}
 use Rattle.afr_model_moves.proofs.Tests.{what_same}
 

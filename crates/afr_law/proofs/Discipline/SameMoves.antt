@@ -13,8 +13,7 @@ use Rattle.afr_object.specs.declared.change.Repair.{Repair}
 use Rattle.afr_object.specs.declared.change.Repair.TheVariants.{Copy, CutTo, PutAttrs, PutNames}
 use Rattle.afr_lines.specs.declared.lock.Domain.TheVariants.{Heal, Work}
 use Rattle.std.proofs.Common.{Bool, [], arith, false, inl, inr, subst, suc, sym, ℕ, ◌<◌, ◌∙◌, ◌∷◌, ◌≡◌, ◌≤◌, ◌⊎◌}
-use Rattle.std.specs.Prelude.{List as Seq}
-use Rattle.std.specs.Prelude.{None, Option, Some}
+use Rattle.std.specs.Prelude.{List as Seq, None, Option, Some}
 
 module _ (n : ℕ) (keeps : ℕ → Kind → Bool) (log other : Log) (t : ℕ) (agree : (u : ℕ) → u < t → log u ≡ other u) where
   tally_as : (a : ℕ) → tally log t a ≡ tally other t a

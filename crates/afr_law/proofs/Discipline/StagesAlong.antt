@@ -4,7 +4,7 @@ use Rattle.afr_law.proofs.Discipline.Asks.{IsHealLock, Kept, kept, kept_dropped}
 use Rattle.afr_model_moves.specs.Heal.{Gives, Goes, InHeal, MayHealBegin}
 use Rattle.afr_model_moves.specs.Note.{breaks, is_held, left_by, left_in_heal, left_outside, stay, stops_at}
 use Rattle.afr_model_moves.specs.Steps.{may_heal, other}
-use Rattle.afr_model_moves.specs.Rules.{no_views, unlocked}
+use Rattle.afr_model_moves.specs.Rules.{no_views, unlocked, Register, busy}
 use Rattle.afr_model_moves.specs.Lines.{ask_by}
 use Rattle.afr_model_moves.specs.Past.{Log, is_gone}
 use Rattle.afr_law.proofs.Discipline.Projection.{along_now}
@@ -22,7 +22,6 @@ use Rattle.std.proofs.Common.{Bool, arith, false, inl, inr, refl, subst, suc, sy
 use Rattle.std.proofs.lemmas.Bool.Decides.{nat_tests}
 use Rattle.std.specs.Prelude.{None, Option, Some, if◌then◌else◌, ◌==◌}
 use Rattle.afr_model_moves.specs.Rules as weak
-use Rattle.afr_model_moves.specs.Rules.{Register, busy}
 use Rattle.afr_model_moves.specs.Transaction.{Outside, MayBegin}
 use Rattle.afr_model_moves.specs.Register.{Exact, Step, HealPart, Untouched, Open, Pres, Applies, Posts, HealLocks, Looks}
 use Rattle.afr_model_moves.specs.Discipline.{note, present, MayExactly, MayAskExactly, MovesExactly}

@@ -7,7 +7,7 @@ use Rattle.afr_model_moves.specs.Register.{Exact, IsArea, PlaneIn, area_kind, ho
 use Rattle.afr_model_moves.specs.Honest.{plane_kind}
 use Rattle.afr_model_moves.specs.Rules.{CoveredBy, PlaneIs, area_object}
 use Rattle.afr_model_moves.specs.Lines.{ask_by, look_at}
-use Rattle.afr_model_moves.specs.Past.{value}
+use Rattle.afr_model_moves.specs.Past.{value, Log, object}
 use Rattle.afr_model_moves.specs.Tally.{tally}
 use Rattle.afr_lines.specs.declared.answer.Told.TheVariants.{Seen}
 use Rattle.afr_lines.specs.declared.request.Area.{Area}
@@ -19,7 +19,6 @@ use Rattle.std.proofs.Common.{Bool, ap, arith, false, inl, inr, length, not, ref
 use Rattle.std.proofs.lemmas.Bool.Decides.{nat_tests}
 use Rattle.std.specs.Prelude.{None, Option, Some, if◌then◌else◌, nat_le, nat_lt, ◌==◌, ◌^◌}
 use Rattle.afr_model_moves.specs.Rules as weak
-use Rattle.afr_model_moves.specs.Past.{Log, object}
 use Rattle.afr_model_moves.specs.Transaction.{LiesIn, MayWork, MayBegin, MayPre, MayApply, MayPost}
 
 -- a change that lies in an area touches only what the area covers

@@ -7,7 +7,7 @@ use Rattle.afr_model_moves.specs.Note.{breaks, left_by, left_in_heal, left_outsi
 use Rattle.afr_model_moves.specs.Register.{Applies, Exact, HealLocks, HealPres, HealUnlocks, Looks, Mends, Open, Posts, Pres, Reads, Settles, Step, Unlocks, Untouched, WorkLocks, same_step, untouched}
 use Rattle.afr_model_moves.specs.Steps.{may_heal}
 use Rattle.afr_model_moves.specs.Transaction.{Outside}
-use Rattle.afr_model_moves.specs.Rules.{no_views, unlocked}
+use Rattle.afr_model_moves.specs.Rules.{no_views, unlocked, busy}
 use Rattle.afr_law.proofs.Discipline.Projection.{along_now}
 use Rattle.afr_model_moves.specs.Sets.{empty}
 use Rattle.afr_lines.specs.declared.answer.Told.{Told}
@@ -19,7 +19,6 @@ use Rattle.afr_lines.specs.declared.lock.Domain.TheVariants.{Heal, Work}
 use Rattle.std.proofs.Common.{Bool, ap, arith, false, inl, inr, refl, suc, sym, true, true≢false, ℕ, ◌&&◌, ◌||◌, ◌∙◌, ◌≡◌, ◌≤◌, ◌⊎◌}
 use Rattle.std.specs.Prelude.{None, Option, Some, if◌then◌else◌}
 use Rattle.afr_model_moves.specs.Rules as weak
-use Rattle.afr_model_moves.specs.Rules.{busy}
 use Rattle.afr_model_moves.specs.Past.{Log, is_of, is_gone, last, last_after}
 
 abbrev IsStill : Exact → Type 0

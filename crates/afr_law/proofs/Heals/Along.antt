@@ -8,7 +8,7 @@ use Rattle.afr_model_moves.specs.Register.{Exact, untouched}
 use Rattle.afr_model_moves.specs.Steps.{may_heal}
 use Rattle.afr_model_moves.specs.Transaction.{MayOpen, Outside}
 use Rattle.afr_law.proofs.Heals.Opening.{opens_here}
-use Rattle.afr_model_moves.specs.Rules.{opened}
+use Rattle.afr_model_moves.specs.Rules.{opened, Register, heal_area}
 use Rattle.afr_model_moves.specs.Lines.{ask_by, heal_begin_by}
 use Rattle.afr_law.proofs.Discipline.Projection.{tally_at, together_now}
 use Rattle.afr_model_moves.specs.Tally.{Tally, blank, in_tally, note_tally, tally}
@@ -23,7 +23,6 @@ use Rattle.afr_lines.specs.declared.lock.Domain.TheVariants.{Heal, Work}
 use Rattle.std.proofs.Common.{Bool, ap, false, inl, inr, refl, subst, suc, sym, true, true≢false, ℕ, ◌&&◌, ◌<◌, ◌||◌, ◌∙◌, ◌≡◌}
 use Rattle.std.specs.Prelude.{None, Option, Some, if◌then◌else◌}
 use Rattle.afr_model_moves.specs.Rules as weak
-use Rattle.afr_model_moves.specs.Rules.{Register, heal_area}
 use Rattle.afr_model_moves.specs.Past.{Log, is_of, is_gone, last}
 use Rattle.std.proofs.lemmas.Bool.{or_parts, eqb-true}
 

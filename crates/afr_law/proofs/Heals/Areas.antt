@@ -10,7 +10,7 @@ use Rattle.afr_model_moves.specs.Steps.{may_heal}
 use Rattle.afr_law.proofs.Heals.Along.{healing_now, opened_by}
 use Rattle.afr_law.proofs.Heals.Conditions.{Resumes, Starts, Waits, WorkPlace, attrs_onward, attrs_turn, bytes_onward, bytes_turn, heal_lock_step, list_onward, list_turn, look_step, mend_test, mend_turn, pre_onward, pre_turn, settle_onward, settle_turn, work_place}
 use Rattle.afr_law.proofs.Discipline.Inner.{turn_low}
-use Rattle.afr_model_moves.specs.Rules.{fresh}
+use Rattle.afr_model_moves.specs.Rules.{fresh, Register, busy, heal_area}
 use Rattle.afr_model_moves.specs.Lines.{heal_begin_by}
 use Rattle.afr_model_moves.specs.Sets.{with}
 use Rattle.afr_law.proofs.Discipline.Stages.{mend_far, onward_far}
@@ -27,7 +27,6 @@ use Rattle.std.proofs.Common.{Bool, ap, arith, false, inl, inr, refl, subst, sym
 use Rattle.std.proofs.lemmas.Bool.Decides.{nat_tests}
 use Rattle.std.specs.Prelude.{Option, Some, if◌then◌else◌, nat_lt}
 use Rattle.afr_model_moves.specs.Rules as weak
-use Rattle.afr_model_moves.specs.Rules.{Register, busy, heal_area}
 use Rattle.afr_model_moves.specs.Past.{Log, is_gone}
 use Rattle.afr_model_moves.proofs.Tests.{same_kind_yes}
 

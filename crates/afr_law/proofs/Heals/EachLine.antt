@@ -16,12 +16,11 @@ use Rattle.afr_lines.specs.declared.request.Request.TheVariants.{Lock, Mend}
 use Rattle.afr_lines.specs.declared.answer.Told.{Told}
 use Rattle.afr_lines.specs.declared.answer.Told.TheVariants.{Seen, Done}
 use Rattle.afr_model_moves.specs.Sets.{with, without, empty}
-use Rattle.afr_model_moves.specs.Cells.{Cell}
+use Rattle.afr_model_moves.specs.Cells.{Cell, fits, object_of}
 use Rattle.afr_model_moves.specs.Past.{Beginning, Log, born, held, holds, touch, over, stamp, settled, mends, joined, opening, is_gone}
 use Rattle.afr_model_moves.specs.Honest.{HonestAsk, HonestLine, Honest, finds, asked}
 use Rattle.afr_model_moves.specs.Rules.{MayPre, Register, fresh, CoversAll, MayBegin, MayMend, begun, is_area, looked, viewed, looking, put_view, is_none, locking, area_object, piece, note_ask, dropping, note, register, MayAsk, MayHealLock, MayHealBegin, Lawful, opened, present, busy, second_of, second_freed, heal_freed}
 use Rattle.afr_model_moves.proofs.AreaLemmas.{heal_freed_in}
-use Rattle.afr_model_moves.specs.Cells.{fits, object_of}
 use Rattle.afr_law.proofs.Safety.Standing.{SeenAt, Plain, Noted, noted, Grants, Waits, Frees, Tries, HealGrants, HealWaits, HealFrees, HealTries, Looks, Pres, Applies, Posts, Mends, Settles, Same}
 use Rattle.afr_law.proofs.Safety.Registers.{Own, Asks, Begins, HealBegins, Ends, HealEnds, standing, registers_at, MayOf}
 use Rattle.afr_law.proofs.Safety.Numbers.{carried_out, force_fresh}

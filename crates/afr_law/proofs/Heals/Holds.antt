@@ -13,7 +13,7 @@ use Rattle.afr_law.proofs.Heals.Along.{healing_now, opened_by}
 use Rattle.afr_law.proofs.Heals.Conditions.{Resumes, Starts, Waits, WorkPlace, attrs_turn, bytes_turn, heal_lock_step, list_turn, look_step, look_turn, mend_turn, pre_turn, settle_turn, settles_is, unlock_turn, work_place}
 use Rattle.afr_law.proofs.Discipline.Inner.{turn_in, turn_low}
 use Rattle.afr_law.proofs.Safety.Sessions.{without_other}
-use Rattle.afr_model_moves.specs.Rules.{fresh}
+use Rattle.afr_model_moves.specs.Rules.{fresh, Register, heal_area}
 use Rattle.afr_model_moves.specs.Lines.{heal_begin_by, look_at, settle_on}
 use Rattle.afr_model_moves.specs.Sets.{empty, with, without}
 use Rattle.afr_law.proofs.Discipline.StagesAlong.{StageOf, stage_now}
@@ -30,7 +30,6 @@ use Rattle.std.proofs.Common.{Bool, ap, arith, false, inl, inr, not, refl, subst
 use Rattle.std.proofs.lemmas.Bool.Decides.{nat_tests}
 use Rattle.std.specs.Prelude.{Some, if◌then◌else◌, ◌==◌}
 use Rattle.afr_model_moves.specs.Rules as weak
-use Rattle.afr_model_moves.specs.Rules.{Register, heal_area}
 use Rattle.afr_model_moves.specs.Past.{Log, is_gone}
 use Rattle.afr_model_moves.proofs.Tests.{with_more, with_self, with_cases, without_in, next_not_opening}
 

@@ -4,7 +4,7 @@ use Rattle.afr_lines.specs.declared.fault.Fault.TheVariants.{Fail, Lost}
 use Rattle.afr_lines.specs.declared.fault.Fault.{Fault}
 use Rattle.afr_lines.specs.Overlap.{overlap}
 use Rattle.std.proofs.Common.{◌≡◌, ℕ, suc, ◌+◌, ◌^◌, ◌<◌, ◌≤◌, Bool, true, false, ◌&&◌, ◌||◌, not, ◌⊎◌, inl, inr, refl, ◌∙◌, subst, arith, true≢false}
-use Rattle.std.specs.Prelude.{Option, None, Some, ◌==◌}
+use Rattle.std.specs.Prelude.{Option, None, Some, ◌==◌, nat_le, nat_lt}
 use Rattle.afr_base.specs.declared.ids.Kind.{Kind}
 use Rattle.afr_object.specs.declared.entry.View.{View}
 use Rattle.afr_base.specs.declared.marks.Marks.{Marks}
@@ -17,13 +17,11 @@ use Rattle.afr_lines.specs.declared.answer.Told.{Told}
 use Rattle.afr_lines.specs.declared.answer.Told.TheVariants.{Seen, Done, NotConnected}
 use Rattle.afr_lines.specs.declared.line.Line.{Line}
 use Rattle.afr_lines.specs.declared.line.Line.TheVariants.{Ask}
-use Rattle.afr_model_moves.specs.Cells.{Cell, covers}
+use Rattle.afr_model_moves.specs.Cells.{Cell, covers, fits, is_cell, object_of, kind_of, Byte, Attr, Entry}
 use Rattle.afr_model_moves.specs.Past.{Beginning, Log, born, held, ends, last, holds, touch, stamp, settled, mends, joined, opening, repaired}
 use Rattle.afr_model_moves.specs.Honest.{HonestAsk, Honest, finds, Tells, Answers}
 use Rattle.afr_model_moves.specs.Rules.{Register, fresh, CoversAll, MayMend, MaySettle, repair_kind, heal_area, dropping, Lawful, present}
-use Rattle.afr_model_moves.specs.Cells.{fits, is_cell, object_of, kind_of, Byte, Attr, Entry}
 use Rattle.afr_object.specs.declared.change.Repair.TheVariants.{CutTo, Copy, PutAttrs, PutNames}
-use Rattle.std.specs.Prelude.{nat_le, nat_lt}
 use Rattle.afr_law.proofs.Safety.Locks.{Grant}
 use Rattle.afr_law.proofs.Safety.Standing.{without_true}
 use Rattle.afr_law.proofs.Safety.Numbers.{last_asked}

@@ -12,9 +12,8 @@ use Rattle.afr_object.specs.declared.change.Repair.{Repair}
 use Rattle.afr_object.specs.declared.change.Repair.TheVariants.{Copy, CutTo, PutAttrs, PutNames}
 use Rattle.afr_object.specs.declared.entry.View.{View}
 use Rattle.std.proofs.Common.{Bool, [], ap, arith, false, inl, inr, length, not, refl, suc, sym, true, true≢false, ℕ, ◌<◌, ◌∙◌, ◌∷◌, ◌≡◌, ◌≤◌, ◌⊎◌}
-use Rattle.std.specs.Prelude.{None, Option, Some}
+use Rattle.std.specs.Prelude.{None, Option, Some, List as Seq}
 use Rattle.afr_model_moves.specs.Rules.{Register}
-use Rattle.std.specs.Prelude.{List as Seq}
 use Rattle.afr_model_moves.specs.Cells.{Attr, Byte, Cell, Entry, is_cell, kind_of, object_of}
 use Rattle.std.proofs.lemmas.Bool.{eqb-true}
 use Rattle.afr_model_moves.proofs.Tests.{same_kind_yes}

@@ -17,7 +17,7 @@ use Rattle.afr_law.proofs.Heals.Raises.{pres_opening, raise_set}
 use Rattle.afr_law.proofs.Heals.Sights.{not_opening}
 use Rattle.afr_law.proofs.Heals.Conditions.{Resumes, Starts, Waits, WorkPlace, attrs_onward, attrs_turn, bytes_onward, bytes_turn, heal_lock_step, heal_unlock_over, list_onward, list_turn, look_step, mend_test, pre_onward, pre_turn, settle_mends, settle_onward, settle_turn, settles_mends, unlock_over, work_place}
 use Rattle.afr_law.proofs.Discipline.Inner.{turn_in, turn_low}
-use Rattle.afr_model_moves.specs.Rules.{fresh, no_views}
+use Rattle.afr_model_moves.specs.Rules.{fresh, no_views, Register, heal_area}
 use Rattle.afr_model_moves.specs.Lines.{ask_by, heal_begin_by, look_at, pre_on, settle_on}
 use Rattle.afr_law.proofs.Discipline.Projection.{tally_at}
 use Rattle.afr_model_moves.specs.Sets.{empty, with}
@@ -40,7 +40,6 @@ use Rattle.std.proofs.lemmas.Bool.Decides.{nat_tests}
 use Rattle.std.specs.Prelude.{None, Option, Some, if◌then◌else◌, nat_lt}
 use Rattle.afr_model_moves.specs.Past.{Log, is_gone, last}
 use Rattle.afr_model_moves.specs.Rules as weak
-use Rattle.afr_model_moves.specs.Rules.{Register, heal_area}
 use Rattle.afr_model_moves.specs.Cells.{Attr, Byte, Cell, Entry}
 use Rattle.afr_law.proofs.Heals.Mended.{Mended, Brought, MendedIn, IsWide, unmended_yet}
 use Rattle.afr_law.proofs.Heals.MendsAlong.{Wide, MendAfter, mend_told}

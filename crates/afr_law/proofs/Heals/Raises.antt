@@ -15,7 +15,7 @@ use Rattle.afr_law.proofs.Heals.Sights.{not_opening, sights_now}
 use Rattle.afr_law.proofs.Heals.Conditions.{Resumes, Starts, Waits, WorkPlace, asked_is, asked_now, attrs_turn, bytes_turn, heal_lock_step, heal_unlock_over, list_turn, look_step, mend_pres, mends_pres, onward_object, over_at, passed_over, pre_onward, pre_turn, pres_passed, settle_mends, settles_mends, unlock_over, work_place}
 use Rattle.afr_law.proofs.Heals.Views.{SightsIn}
 use Rattle.afr_law.proofs.Discipline.Inner.{turn_in, turn_low}
-use Rattle.afr_model_moves.specs.Rules.{fresh}
+use Rattle.afr_model_moves.specs.Rules.{fresh, Register, heal_area}
 use Rattle.afr_model_moves.specs.Lines.{ask_by, heal_begin_by, look_at, pre_on}
 use Rattle.afr_law.proofs.Discipline.Projection.{tally_at}
 use Rattle.afr_model_moves.specs.Sets.{with}
@@ -35,7 +35,6 @@ use Rattle.std.proofs.lemmas.Bool.Decides.{nat_tests}
 use Rattle.std.specs.Prelude.{Option, Some, if◌then◌else◌, nat_le, ◌==◌}
 use Rattle.afr_model_moves.specs.Past.{Log, is_gone, last}
 use Rattle.afr_model_moves.specs.Rules as weak
-use Rattle.afr_model_moves.specs.Rules.{Register, heal_area}
 use Rattle.std.proofs.lemmas.Bool.{eqb-true}
 use Rattle.afr_base.specs.Bricks.{and_left, and_right}
 use Rattle.afr_model_moves.proofs.Tests.{with_more, with_self, with_cases, next_not_opening}

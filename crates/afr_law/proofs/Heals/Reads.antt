@@ -3,7 +3,7 @@ use Rattle.afr_base.specs.declared.ids.Kind.{Kind}
 use Rattle.afr_base.specs.declared.ids.Kind.TheVariants.{Attrs, Bytes, Names}
 use Rattle.afr_law.proofs.Discipline.AskFields.{frees_heal, frees_work}
 use Rattle.afr_model_moves.specs.Discipline.{MovesExactly, present}
-use Rattle.afr_model_moves.specs.Note.{breaks, fails, left_in_heal, put}
+use Rattle.afr_model_moves.specs.Note.{breaks, fails, left_in_heal, put, given}
 use Rattle.afr_model_moves.specs.Register.{Exact, HealPart, HealPres, HealUnlocks, Mends, Reads, Settles, Step, Unlocks, good, rank}
 use Rattle.afr_model_moves.specs.Steps.{may_heal, reads_at}
 use Rattle.afr_law.proofs.Heals.Along.{healing_now}
@@ -23,7 +23,6 @@ use Rattle.afr_object.specs.declared.entry.View.{View}
 use Rattle.afr_lines.specs.declared.lock.Domain.TheVariants.{Heal, Work}
 use Rattle.std.proofs.Common.{Bool, arith, false, inl, inr, refl, subst, suc, sym, true, true≢false, ℕ, ◌<◌, ◌≡◌, ◌≤◌}
 use Rattle.std.specs.Prelude.{None, Option, Some}
-use Rattle.afr_model_moves.specs.Note.{given}
 use Rattle.afr_model_moves.specs.Rules as weak
 use Rattle.afr_model_moves.specs.Rules.{Register}
 use Rattle.afr_model_moves.proofs.Tests.{put_read}

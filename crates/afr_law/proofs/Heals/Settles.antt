@@ -40,6 +40,7 @@ use Rattle.afr_law.proofs.Heals.Moves.{tally_here, first_view, whole_covers}
 use Rattle.std.proofs.lemmas.Bool.{eqb-true, cases_lt, and_from}
 use Rattle.afr_model_moves.proofs.Tests.{all_yes, same_kind_yes}
 use Rattle.afr_base.specs.Bricks.{and_left, and_right}
+use Rattle.afr_base.proofs.TestLemmas.{same_test}
 
 -- the numbers of a settling are for five bricks
 abbrev pub Fives : Log → Type 0
@@ -55,11 +56,6 @@ pub set_raised : (keeps : ℕ → Kind → Bool) (r : Exact) (s : ℕ) (kind : K
 set_raised keeps r s Bytes b e = e
 set_raised keeps r s Attrs b e = e
 set_raised keeps r s Names b e = refl
-
-same_bool : (x y : Bool) → (x ≡ true → y ≡ true) → (y ≡ true → x ≡ true) → x ≡ y
-same_bool true y f g = sym (f refl)
-same_bool false true f g = g refl
-same_bool false false f g = refl
 
 one_of : (x : Bool) → (if x then 1 else 0) ≡ weak.one_if x
 one_of true = refl
@@ -174,7 +170,7 @@ module _ (n : ℕ) (keeps : ℕ → Kind → Bool) (log : Log) (honest : Honestl
     full e = record { s = m.source; sinks = λ c low_c copy. elim (source_or keeps here.first_views m.source here.law.kind c copy (all_yes n (holder here.first_views) e c low_c)) [ inl own ↦ inl own | inr set ↦ inr (sink_of c low_c set) ] }
 
     raised_same : raised keeps here m.source here.law.kind b ≡ here.law.raised b
-    raised_same = same_bool _ _ (λ e. raised_all b below (raised_set keeps here m.source here.law.kind b e holds)) (λ e. set_raised keeps here m.source here.law.kind b (raises.aside m.source b (raises.counted b e) m.possible))
+    raised_same = same_test _ _ (λ e. raised_all b below (raised_set keeps here m.source here.law.kind b e holds)) (λ e. set_raised keeps here m.source here.law.kind b (raises.aside m.source b (raises.counted b e) m.possible))
 
     cleaned : (less.dirty ≡ 0) ⊎ ((less.dirty ≡ (view_marks view.0 here.law.kind).dirty + weak.one_if (here.law.raised b)) × weak.Full n keeps log t a here.law)
     cleaned = go (all n (holder here.first_views)) refl (eqb-true _ _ (and_right _ _ taken))

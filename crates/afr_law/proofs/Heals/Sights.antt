@@ -16,7 +16,7 @@ use Rattle.afr_law.proofs.Heals.Holds.{HoldsIn, fails_gone, holds_now, kept_law}
 use Rattle.afr_law.proofs.Heals.Conditions.{Resumes, Starts, Waits, WorkPlace, asked_now, attrs_onward, attrs_turn, bytes_onward, bytes_turn, heal_lock_area, heal_lock_step, heal_unlock_goes, heal_unlock_over, list_onward, list_turn, look_object, look_step, look_turn, looks_is, mend_goes, mend_pres, mend_test, mend_turn, mends_pres, onward_goes, onward_looks, pre_onward, pre_turn, pres_looks, settle_onward, settle_turn, settles_mends, turn_fresh, unlock_goes, unlock_over, work_place}
 use Rattle.afr_law.proofs.Heals.Views.{SeenAt, Sights, SightsIn, after_looks, here_or, later_not, later_seen, none_view, opening_not, opening_seen, put_other, seen_next}
 use Rattle.afr_law.proofs.Discipline.Inner.{Inner, turn_in, turn_low}
-use Rattle.afr_model_moves.specs.Rules.{fresh}
+use Rattle.afr_model_moves.specs.Rules.{fresh, Register, heal_area, is_none}
 use Rattle.afr_model_moves.specs.Lines.{ask_by, heal_begin_by, look_at}
 use Rattle.afr_model_moves.specs.Past.{Log, holds, is_gone}
 use Rattle.afr_model_moves.specs.Sets.{with}
@@ -34,7 +34,6 @@ use Rattle.afr_lines.specs.declared.lock.Domain.TheVariants.{Heal, Work}
 use Rattle.std.proofs.Common.{Bool, ap, arith, false, inl, inr, not, refl, subst, suc, sym, true, true≢false, ℕ, ◌&&◌, ◌<◌, ◌∙◌, ◌≡◌, ◌≤◌, ◌⊎◌}
 use Rattle.std.specs.Prelude.{None, Option, Some, if◌then◌else◌, ◌==◌}
 use Rattle.afr_model_moves.specs.Rules as weak
-use Rattle.afr_model_moves.specs.Rules.{Register, heal_area, is_none}
 use Rattle.std.proofs.lemmas.Bool.{eqb-true, eq-eqb, and_from}
 use Rattle.afr_model_moves.proofs.Tests.{with_false, some_number, with_cases, next_not_opening}
 use Rattle.afr_base.specs.Bricks.{and_right}

@@ -34,9 +34,8 @@ use Rattle.afr_object.specs.declared.change.Repair.TheVariants.{Copy, CutTo, Put
 use Rattle.afr_object.specs.declared.entry.View.{View}
 use Rattle.std.proofs.Common.{Bool, ap, arith, false, inl, inr, length, not, refl, subst, sym, true, true≢false, ℕ, ◌&&◌, ◌<◌, ◌∙◌, ◌≡◌, ◌≤◌, ◌⊎◌}
 use Rattle.std.proofs.lemmas.Bool.Decides.{nat_tests}
-use Rattle.std.specs.Prelude.{None, Option, Some, if◌then◌else◌, nat_lt, slice_index, ◌==◌}
+use Rattle.std.specs.Prelude.{None, Option, Some, if◌then◌else◌, nat_lt, slice_index, ◌==◌, List as Seq}
 use Rattle.afr_model_moves.specs.Rules as weak
-use Rattle.std.specs.Prelude.{List as Seq}
 use Rattle.afr_law.proofs.Heals.MendsAlong.{Wide}
 use Rattle.afr_law.proofs.Heals.Mended.{Fits, IsWide, fits_one, mend_fits, mends_set, mends_finish}
 use Rattle.afr_law.proofs.Heals.Moves.{tally_here, first_view, views_of, read_of, each_read, fits_covers}

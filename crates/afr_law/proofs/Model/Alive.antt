@@ -9,6 +9,7 @@ use Rattle.afr_model.specs.Following.{Follows}
 use Rattle.afr_model.specs.Sessions.{ends_session, is_joined, opens_with}
 use Rattle.afr_plan.specs.declared.plan.Plan.{Plan}
 use Rattle.afr_law.proofs.Model.Tasks.{turn_of}
+use Rattle.afr_base.proofs.TestLemmas.{and_not}
 
 kill_ends : (x b : ℕ) (line : Line) → kills x line ≡ true → ends_session x b line ≡ true
 kill_ends x b (Event (Kill y)) k = k
@@ -26,10 +27,6 @@ pub killed_apart : (crawl : Bool) (p : Plan) (x b : ℕ) (log : List Line) → F
 killed_apart crawl p x b [] f e = absurd (true≢false (sym e))
 killed_apart crawl p x b (line ∷ older) f e = go (kills x line) refl (is_killed x older) refl e (λ k. killed_apart crawl p x b older f.1 k)
   where
-    ended : (live end : Bool) → end ≡ true → (live && not end) ≡ false
-    ended true end k = rw k refl
-    ended false end k = refl
-
     quiet : (was new end : Bool) → was ≡ false → new ≡ false → ((was || new) && not end) ≡ false
     quiet was new end k l = rw (k, l) refl
 
@@ -38,7 +35,7 @@ killed_apart crawl p x b (line ∷ older) f e = go (kills x line) refl (is_kille
     unopened false g dead = rw g refl
 
     go : (k : Bool) → kills x line ≡ k → (d : Bool) → is_killed x older ≡ d → (k || d) ≡ true → (is_killed x older ≡ true → is_joined p x b older ≡ false) → is_joined p x b (line ∷ older) ≡ false
-    go true k d g h rest = ended (is_joined p x b older || opens_with p x b line older) (ends_session x b line) (kill_ends x b line k)
+    go true k d g h rest = and_not (is_joined p x b older || opens_with p x b line older) (ends_session x b line) (kill_ends x b line k)
     go false k true g h rest = quiet (is_joined p x b older) (opens_with p x b line older) (ends_session x b line) (rest g) (unopened (is_of x line) refl g)
     go false k false g h rest = absurd (true≢false (sym h))
 

@@ -1,7 +1,6 @@
 -- Where the next request of an honest and lawful log changes a copy, there is one, and its brick can carry the request out.
 use Rattle.std.proofs.Common.{◌≡◌, ℕ, suc, ◌+◌, ◌-◌, ◌<◌, ◌≤◌, Bool, true, false, refl, sym, ◌∙◌, ap, subst, arith, List, ◌∷◌, length, Option, Some, ◌||◌}
-use Rattle.std.specs.Prelude.{option_and_then}
-use Rattle.std.specs.Prelude.{List as Seq}
+use Rattle.std.specs.Prelude.{option_and_then, List as Seq}
 use Rattle.afr_base.specs.Bricks.{member}
 use Rattle.afr_base.specs.declared.ids.ActorId.{ActorId}
 use Rattle.afr_base.specs.declared.ids.BrickId.{BrickId}

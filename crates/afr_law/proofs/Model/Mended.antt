@@ -5,6 +5,7 @@ use Rattle.std.specs.Option.{option_map}
 use Rattle.std.specs.BTreeMap.{is_at}
 use Rattle.std.specs.Map.{lookup}
 use Rattle.std.proofs.lemmas.Bool.Decides.{nat_tests}
+use Rattle.std.proofs.Math.Bool.{and-true}
 use Rattle.afr_base.specs.declared.ids.Gfid.{Gfid}
 use Rattle.afr_base.specs.declared.ids.KeyId.{KeyId}
 use Rattle.afr_base.specs.declared.ids.ValueId.{ValueId}
@@ -118,14 +119,10 @@ names_replaced g names t h m new is = go (copy_at g t) refl
     lacks true none = rw (none refl) refl
     lacks false none = no_touch _ _ _
 
-    and_true : (b : Bool) → (b && true) ≡ b
-    and_true true = refl
-    and_true false = refl
-
     there : code_in (changed (with_names f) g (copy_at g t) t) (Entry h m) ≡ (if fits (kind_in t h) (Entry h m) && (g.0 == h) then new else code_in t (Entry h m))
     there =
         names_changed f g t h m true (lookup (is_at (name_cmp (record { 0 = m }))) names) (λ o k. refl)
-        ∙ (λ i. if fits (kind_in t h) (Entry h m) && and_true (g.0 == h) i then is i else code_in t (Entry h m))
+        ∙ (λ i. if fits (kind_in t h) (Entry h m) && and-true (g.0 == h) i then is i else code_in t (Entry h m))
 
     go : (o : Option Object) → copy_at g t ≡ o → code_in (renamed names g o t) (Entry h m) ≡ (if fits (kind_in t h) (Entry h m) && (g.0 == h) then new else code_in t (Entry h m))
     go None e = lacks (g.0 == h) (λ d. absent g.0 d (ap kind_code e))

@@ -4,7 +4,7 @@ use Rattle.afr_lines.specs.declared.fault.Fault.{Fault}
 use Rattle.afr_base.specs.Majority.{IsMajority}
 use Rattle.afr_lines.specs.Places.{Place, Fresh, Indexed, Between, Within, next_place}
 use Rattle.std.proofs.Common.{◌≡◌, ℕ, zero, suc, ◌<◌, ◌≤◌, Bool, true, false, ◌&&◌, not, ◌⊎◌, inl, inr, refl, sym, ap, ◌∙◌, subst, arith, true≢false}
-use Rattle.std.specs.Prelude.{Option, None, Some, ◌==◌, if◌then◌else◌}
+use Rattle.std.specs.Prelude.{Option, None, Some, ◌==◌, if◌then◌else◌, nat_lt}
 use Rattle.std.proofs.lemmas.Bool.Decides.{nat_tests}
 use Rattle.afr_base.specs.declared.ids.Kind.{Kind}
 use Rattle.afr_object.specs.declared.entry.View.{View}
@@ -20,7 +20,6 @@ use Rattle.afr_model_moves.specs.Sets.{with, without}
 use Rattle.afr_model_moves.specs.Past.{Beginning, Log, held, opens, place, is_of, is_gone}
 use Rattle.afr_model_moves.specs.Honest.{Honest}
 use Rattle.afr_model_moves.specs.Rules.{Register, fresh, MayBegin, MayHealEnd, LastPosted, begun, is_area, looked, viewed, put_view, is_none, locking, area_object, note_ask, dropping, note, in_force, register, MayAsk, MayLock, MayHealLock, MayHealBegin, Lawful, opened, present, busy, second_of, second_freed}
-use Rattle.std.specs.Prelude.{nat_lt}
 use Rattle.afr_law.specs.Safe.{end_of, or_else, outcome, Acknowledged}
 use Rattle.afr_law.proofs.Safety.Standing.{Noted, noted, Grants, Waits, Frees, Tries, HealGrants, HealWaits, HealFrees, HealTries, Looks, Pres, Applies, Posts, Mends, Settles, Same}
 use Rattle.afr_law.proofs.Safety.Registers.{MayOf, registers_at, Own, Asks, Begins, HealBegins, Ends, HealEnds}

@@ -1,9 +1,8 @@
 -- Lines that act on a cell, and the lock under which they do.
-use Rattle.std.specs.Prelude.{List as Seq}
+use Rattle.std.specs.Prelude.{List as Seq, Option, None, Some, ◌==◌, if◌then◌else◌}
 use Rattle.afr_lines.specs.declared.fault.Fault.{Fault}
 use Rattle.afr_base.specs.Bricks.{member}
 use Rattle.std.proofs.Common.{◌≡◌, ℕ, zero, suc, ◌<◌, ◌≤◌, Bool, true, false, ◌&&◌, ◌||◌, not, ◌⊎◌, inl, inr, refl, sym, ap, ◌∙◌, subst, arith}
-use Rattle.std.specs.Prelude.{Option, None, Some, ◌==◌, if◌then◌else◌}
 use Rattle.afr_base.specs.declared.ids.Kind.{Kind}
 use Rattle.afr_object.specs.declared.change.Repair.{Repair}
 use Rattle.afr_object.specs.declared.change.Change.{Change}
@@ -13,11 +12,10 @@ use Rattle.afr_lines.specs.declared.request.Request.TheVariants.{Apply}
 use Rattle.afr_lines.specs.declared.answer.Told.{Told}
 use Rattle.afr_lines.specs.declared.line.Line.{Line}
 use Rattle.afr_lines.specs.declared.line.Line.TheVariants.{Begin, HealBegin}
-use Rattle.afr_model_moves.specs.Cells.{Cell, covers}
+use Rattle.afr_model_moves.specs.Cells.{Cell, covers, touches, is_cell, object_of, kind_of}
 use Rattle.afr_model_moves.specs.Past.{Beginning, Log, last, last_after, changes, mends, started, linked, joined, opening, opens, place, is_of}
 use Rattle.afr_model_moves.specs.Honest.{HonestAsk, HonestLine, Honest, asked}
 use Rattle.afr_model_moves.specs.Rules.{Register, CoveredBy, CoversAll, CoversMend, PlaneIs, MayApply, MayPost, in_force, register, May, MayAsk, Lawful, opened, present}
-use Rattle.afr_model_moves.specs.Cells.{touches, is_cell, object_of, kind_of}
 use Rattle.afr_law.proofs.Safety.Locks.{Locked, apart_others}
 use Rattle.afr_law.proofs.Safety.Standing.{Standing}
 use Rattle.afr_law.proofs.Safety.Registers.{standing}

@@ -3,7 +3,7 @@ use Rattle.afr_base.specs.Kinds.{same_kind}
 use Rattle.afr_lines.specs.declared.fault.Fault.{Fault}
 use Rattle.afr_base.specs.Bricks.{member, and_right}
 use Rattle.std.proofs.Common.{◌≡◌, ℕ, zero, suc, ◌+◌, ◌^◌, ◌-◌, ◌<◌, ◌≤◌, Bool, true, false, ◌&&◌, ◌||◌, ◌⊎◌, inl, inr, refl, sym, ap, ◌∙◌, subst, arith, true≢false}
-use Rattle.std.specs.Prelude.{Option, Some, ◌==◌}
+use Rattle.std.specs.Prelude.{Option, Some, ◌==◌, slice_index, nat_le, nat_lt, length, List as Seq}
 use Rattle.std.proofs.lemmas.Bool.Decides.{nat_tests}
 use Rattle.afr_base.specs.declared.ids.Kind.{Kind}
 use Rattle.afr_object.specs.declared.entry.View.{View}
@@ -15,16 +15,13 @@ use Rattle.afr_lines.specs.declared.answer.Told.{Told}
 use Rattle.afr_lines.specs.declared.answer.Told.TheVariants.{Done}
 use Rattle.afr_lines.specs.declared.line.Line.{Line}
 use Rattle.afr_lines.specs.declared.line.Line.TheVariants.{Begin}
-use Rattle.afr_model_moves.specs.Cells.{Cell, covers}
+use Rattle.afr_model_moves.specs.Cells.{Cell, covers, object_of, kind_of, Byte, Attr, Entry, fits, is_cell, touches}
 use Rattle.afr_model_moves.specs.Past.{Beginning, Log, born, before, brick_of, holds, touch, over, stamp, choose, left_by, leaves_of, values, value, named, posts, settled, changes, mends, joined, opening, object, object_of_line}
 use Rattle.afr_model_moves.specs.Honest.{HonestLine, Honest, finds, Shows, view_marks, asked, begins_attempt}
 use Rattle.afr_model_moves.specs.Rules.{Register, MayPost, MayMend, MaySettle, UnaccusedViews, ReadOf, CutOf, BringsSeen, piece, Lawful, present, repair_kind}
-use Rattle.afr_model_moves.specs.Cells.{object_of, kind_of, Byte, Attr, Entry}
 use Rattle.afr_base.specs.declared.ids.Kind.TheVariants.{Bytes}
 use Rattle.afr_object.specs.declared.change.Repair.TheVariants.{CutTo, Copy, PutAttrs, PutNames}
-use Rattle.std.specs.Prelude.{slice_index, nat_le, nat_lt, length, List as Seq}
 use Rattle.afr_object.specs.declared.change.Change.TheVariants.{Write, Cut}
-use Rattle.afr_model_moves.specs.Cells.{fits, is_cell, touches}
 use Rattle.afr_law.specs.Safe.{Acknowledged, Current, Opening, Left, IsGoodCopy, Safe}
 use Rattle.afr_law.proofs.Safety.Core.{History, Clean, kept_on, one_cell, one_read, reached, stamp_rises}
 use Rattle.afr_law.proofs.Safety.Locks.{before_is}

@@ -2,7 +2,7 @@
 use Rattle.afr_lines.specs.declared.fault.Fault.TheVariants.{Fail, Lost}
 use Rattle.afr_lines.specs.declared.fault.Fault.{Fault}
 use Rattle.std.proofs.Common.{◌≡◌, ℕ, zero, suc, ◌+◌, ◌^◌, ◌<◌, ◌≤◌, Bool, true, false, ◌&&◌, ◌⊎◌, inl, inr, refl, sym, ◌∙◌, subst, arith, true≢false}
-use Rattle.std.specs.Prelude.{Option, None, Some, ◌==◌}
+use Rattle.std.specs.Prelude.{Option, None, Some, ◌==◌, nat_le, nat_lt, length, List as Seq, [], ◌∷◌, max}
 use Rattle.std.proofs.lemmas.Bool.Decides.{nat_tests}
 use Rattle.afr_base.specs.declared.ids.Kind.{Kind}
 use Rattle.afr_object.specs.declared.entry.View.{View}
@@ -12,15 +12,12 @@ use Rattle.afr_lines.specs.declared.answer.Told.{Told}
 use Rattle.afr_lines.specs.declared.answer.Told.TheVariants.{Seen}
 use Rattle.afr_lines.specs.declared.line.Line.{Line}
 use Rattle.afr_lines.specs.declared.line.Line.TheVariants.{Begin}
-use Rattle.afr_model_moves.specs.Cells.{Cell, covers}
+use Rattle.afr_model_moves.specs.Cells.{Cell, covers, object_of, kind_of, Byte, Attr, Entry, touches}
 use Rattle.afr_model_moves.specs.Past.{Beginning, Log, holds, touch, stamp, leaves_of, most, value, posts, settled, changes, mends, object, object_of_line}
 use Rattle.afr_model_moves.specs.Honest.{HonestAsk, Shows, plane_kind, Tells}
 use Rattle.afr_model_moves.specs.Rules.{PlaneIs, some_read, EachRead}
-use Rattle.afr_model_moves.specs.Cells.{object_of, kind_of, Byte, Attr, Entry}
 use Rattle.afr_base.specs.declared.ids.Kind.TheVariants.{Bytes}
-use Rattle.std.specs.Prelude.{nat_le, nat_lt, length, List as Seq, [], ◌∷◌, max}
 use Rattle.afr_object.specs.declared.change.Change.TheVariants.{Write, Cut, SetAttr, Make, Remove}
-use Rattle.afr_model_moves.specs.Cells.{touches}
 use Rattle.afr_law.proofs.Safety.Core.{Clean}
 use Rattle.afr_law.proofs.Safety.Acts.{Act}
 use Rattle.afr_law.proofs.Heals.Looks.{LookAt, look_acts}

@@ -16,7 +16,7 @@ use Rattle.afr_model_moves.specs.Past.{Beginning, Log, before, held, grants, fre
 use Rattle.afr_model_moves.specs.Honest.{HonestAsk, HonestLine, Honest, asked}
 use Rattle.afr_law.proofs.Safety.Areas.{overlap-covers}
 use Rattle.afr_model_moves.specs.Lines.{ask_by}
-use Rattle.std.proofs.lemmas.Bool.{cases_lt, eqb-true, ne_eqb}
+use Rattle.std.proofs.lemmas.Bool.{cases_lt, eqb-true, ne_eqb, or_from}
 use Rattle.afr_model_moves.proofs.Tests.{same_self, same_no, three_cases}
 
 -- the line at p granted this lock
@@ -32,9 +32,6 @@ step_cases false g false f e = cc
 
 pub step_true : (same g h f : Bool) → same ≡ false → h ≡ true → f ≡ false → (if same then g else (h && not f)) ≡ true
 step_true same g h f p q r = rw (p, q, r) refl
-
-pub or_none : (x y : Bool) → x ≡ false → y ≡ false → (x || y) ≡ false
-or_none x y p q = rw (p, q) refl
 
 -- a line before t
 pub before_is : (log : Log) (t q : ℕ) → q < t → before log t q ≡ log q
@@ -79,7 +76,7 @@ module _ (log : Log) where
   held_on t a b p domain area grant h live still =
       let past = held_past t b p h in
       step_true (p == t) (grants b (log t)) (held log t b p) (frees b (before log t p) (log t)) (same_no p t past) h
-      (rw (before_is log t p past, grant.is) (or_none (ends a b (log t)) (unlocks a b domain area (log t)) (and_not (joined log t a b || opening log t a b) (ends a b (log t)) live) still))
+      (rw (before_is log t p past, grant.is) (or_from (ends a b (log t)) (unlocks a b domain area (log t)) (and_not (joined log t a b || opening log t a b) (ends a b (log t)) live) still))
 
   pub held_new : (t a b : ℕ) (domain : Domain) (area : Area) → Grant log t a b domain area → held log (suc t) b t ≡ true
   unfolding held

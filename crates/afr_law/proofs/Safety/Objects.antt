@@ -3,7 +3,7 @@ use Rattle.afr_law_tables.proofs.Entries.{entry_some, entry_same}
 use Rattle.afr_lines.specs.declared.fault.Fault.TheVariants.{Fail, Lost}
 use Rattle.afr_lines.specs.declared.fault.Fault.{Fault}
 use Rattle.std.proofs.Common.{◌≡◌, ℕ, zero, suc, ◌+◌, ◌<◌, Bool, true, false, ◌&&◌, ◌||◌, not, ◌⊎◌, inl, inr, refl, sym, ap, ◌∙◌, subst, arith, true≢false}
-use Rattle.std.specs.Prelude.{Option, None, Some, ◌==◌, if◌then◌else◌, []}
+use Rattle.std.specs.Prelude.{Option, None, Some, ◌==◌, if◌then◌else◌, [], nat_le, nat_lt, max, ◌-◌, List as Seq, ◌∷◌}
 use Rattle.afr_object.specs.declared.entry.View.{View}
 use Rattle.afr_object.specs.declared.change.Repair.{Repair}
 use Rattle.afr_object.specs.declared.change.Change.{Change}
@@ -15,13 +15,11 @@ use Rattle.afr_lines.specs.declared.answer.Told.{Told}
 use Rattle.afr_lines.specs.declared.answer.Told.TheVariants.{Seen}
 use Rattle.afr_lines.specs.declared.line.Line.{Line}
 use Rattle.afr_lines.specs.declared.line.Line.TheVariants.{Ask, Begin}
-use Rattle.afr_model_moves.specs.Cells.{Cell}
+use Rattle.afr_model_moves.specs.Cells.{Cell, what_code, entry_code, fits, touches, leaves, object_of, Byte, Attr, Entry}
 use Rattle.afr_model_moves.specs.Past.{Beginning, Log, before, brick_of, kind_at, holds, born, made, makes, keep, touch, choose, left_by, leaves_of, most, values, value, changes, joined, opening, tables, after, named_kind, last, object, target}
 use Rattle.afr_model_moves.specs.Honest.{HonestAsk, HonestLine, Honest, Shows, KnownMake, Tells, asked}
 use Rattle.afr_model_moves.specs.Rules.{fresh, SeenFit, fits_change}
-use Rattle.afr_model_moves.specs.Cells.{what_code, entry_code, fits, touches, leaves, object_of, Byte, Attr, Entry}
 use Rattle.afr_object.specs.declared.change.Repair.TheVariants.{CutTo, Copy, PutAttrs, PutNames}
-use Rattle.std.specs.Prelude.{nat_le, nat_lt, max, ◌-◌, List as Seq, ◌∷◌}
 use Rattle.afr_law.proofs.Safety.Locks.{before_is}
 use Rattle.afr_law.proofs.Safety.Touches.{Touched, touched, Not, Made, Mended, kind_next, begin_kinds}
 use Rattle.afr_model_moves.specs.Lines.{ask_by, begin_by, look_at, make_in}

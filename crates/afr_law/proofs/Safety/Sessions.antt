@@ -1,7 +1,7 @@
 -- Who holds a lock has a session; with small facts of tests, sets and places.
 use Rattle.std.proofs.Common.{◌≡◌, ℕ, zero, suc, ◌<◌, ◌&&◌, ◌||◌, not, ◌==◌, Bool, true, false, ◌⊎◌, inl, inr, refl, sym, ◌∙◌, subst, ap, Option, Some, None, true≢false}
 use Rattle.std.specs.Prelude.{if◌then◌else◌}
-use Rattle.std.proofs.lemmas.Bool.{eqb-true}
+use Rattle.std.proofs.lemmas.Bool.{eqb-true, or_parts}
 use Rattle.afr_base.specs.declared.ids.Kind.{Kind}
 use Rattle.afr_lines.specs.declared.fault.Fault.{Fault}
 use Rattle.afr_lines.specs.declared.fault.Fault.TheVariants.{Fail, Lost}
@@ -22,7 +22,6 @@ use Rattle.afr_model_moves.specs.Lines.{ask_by}
 use Rattle.afr_model_moves.specs.Past.{Beginning, Log, before, ends, frees, grants, held, is_gone, joined, opening, unlocks}
 use Rattle.afr_model_moves.specs.Sets.{without}
 use Rattle.afr_lines.specs.declared.lock.Domain.{Domain}
-use Rattle.std.proofs.lemmas.Bool.{or_parts}
 use Rattle.afr_law.proofs.Safety.Locks.{Grant, before_is, held_past, step_cases}
 
 -- ---- tests

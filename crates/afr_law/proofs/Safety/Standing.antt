@@ -1,10 +1,9 @@
 -- What a register says of the locks of its actor, and what a request leaves of it.
 use Rattle.afr_model_moves.proofs.AreaLemmas.{is_area_is}
-use Rattle.std.specs.Prelude.{List as Seq}
+use Rattle.std.specs.Prelude.{List as Seq, Option, Some, ◌==◌, if◌then◌else◌}
 use Rattle.afr_lines.specs.Locks.{same_domain}
 use Rattle.afr_lines.specs.Overlap.{same_area}
 use Rattle.std.proofs.Common.{◌≡◌, ℕ, suc, ◌<◌, Bool, true, false, ◌&&◌, not, ◌⊎◌, inl, inr, refl, sym, ap, ◌∙◌, subst, arith, true≢false}
-use Rattle.std.specs.Prelude.{Option, Some, ◌==◌, if◌then◌else◌}
 use Rattle.std.proofs.lemmas.Bool.Decides.{nat_tests}
 use Rattle.afr_base.specs.declared.ids.Kind.{Kind}
 use Rattle.afr_object.specs.declared.entry.View.{View}

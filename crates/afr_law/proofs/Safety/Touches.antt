@@ -1,16 +1,14 @@
 -- How a line touches a cell, and what stands in it then.
 use Rattle.std.proofs.Common.{ap, ◌≡◌, ℕ, zero, suc, ◌<◌, ◌≤◌, Bool, true, false, ◌&&◌, inl, inr, refl, sym, ◌∙◌, arith, true≢false}
-use Rattle.std.specs.Prelude.{Option, None, Some, ◌==◌, if◌then◌else◌}
+use Rattle.std.specs.Prelude.{Option, None, Some, ◌==◌, if◌then◌else◌, nat_le, nat_lt}
 use Rattle.std.proofs.lemmas.Bool.Decides.{nat_tests}
 use Rattle.afr_object.specs.declared.change.Repair.{Repair}
 use Rattle.afr_lines.specs.declared.request.Request.TheVariants.{Apply, Mend}
 use Rattle.afr_lines.specs.declared.answer.Told.{Told}
 use Rattle.afr_lines.specs.declared.line.Line.{Line}
 use Rattle.afr_lines.specs.declared.line.Line.TheVariants.{Ask}
-use Rattle.afr_model_moves.specs.Cells.{Cell}
+use Rattle.afr_model_moves.specs.Cells.{Cell, fits, object_of}
 use Rattle.afr_model_moves.specs.Past.{Beginning, Tables, tables, after, keep, makes, kind_at, choose, left_by, values, value, last, Log, before, touch, over, stamp, changes, mends, target}
-use Rattle.afr_model_moves.specs.Cells.{fits, object_of}
-use Rattle.std.specs.Prelude.{nat_le, nat_lt}
 use Rattle.afr_model_moves.specs.Lines.{ask_by}
 use Rattle.std.proofs.lemmas.Bool.{cases_lt, eqb-true, ltb-true}
 use Rattle.afr_model_moves.proofs.Tests.{three_parts}

@@ -21,8 +21,7 @@ use Rattle.afr_object.specs.declared.entry.View.{View}
 use Rattle.afr_lines.specs.declared.lock.Domain.TheVariants.{Work}
 use Rattle.std.proofs.Common.{Bool, [], arith, false, inl, inr, not, refl, subst, sym, true, true≢false, ℕ, ◌&&◌, ◌+◌, ◌<◌, ◌∷◌, ◌≡◌}
 use Rattle.std.proofs.lemmas.Bool.Decides.{nat_tests}
-use Rattle.std.specs.Prelude.{None, Some, if◌then◌else◌, nat_lt, slice_get, ◌==◌, ◌^◌}
-use Rattle.std.specs.Prelude.{List as Seq}
+use Rattle.std.specs.Prelude.{None, Some, if◌then◌else◌, nat_lt, slice_get, ◌==◌, ◌^◌, List as Seq}
 use Rattle.afr_lines.specs.declared.reply.Reply.TheVariants.{Ok}
 use Rattle.afr_lines.specs.declared.reply.Good.TheVariants.{Done as GoodDone}
 

@@ -19,10 +19,9 @@ use Rattle.afr_object.specs.declared.change.Repair.TheVariants.{PutAttrs}
 use Rattle.afr_object.specs.declared.entry.View.{View}
 use Rattle.afr_lines.specs.declared.lock.Domain.TheVariants.{Heal, Work}
 use Rattle.std.proofs.Common.{Bool, [], arith, false, inr, refl, true, ℕ, ◌+◌, ◌∷◌, ◌≡◌}
-use Rattle.std.specs.Prelude.{slice_get, ◌^◌}
+use Rattle.std.specs.Prelude.{slice_get, ◌^◌, List as Seq}
 use Rattle.afr_lines.specs.declared.reply.HealReply.TheVariants.{Settled}
 use Rattle.afr_model_moves.specs.Rules.{heal_area}
-use Rattle.std.specs.Prelude.{List as Seq}
 
 -- no number
 abbrev pub zeros : Marks

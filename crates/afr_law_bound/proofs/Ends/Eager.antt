@@ -18,7 +18,7 @@ use Rattle.afr_model_moves.proofs.Tests.{same_self}
 use Rattle.afr_plan.specs.declared.plan.Plan.{Plan}
 use Rattle.afr_law.proofs.Model.Tasks.{turn_of}
 
-one_if : Bool → ℕ
+pub one_if : Bool → ℕ
 one_if true = 1
 one_if false = 0
 

@@ -164,7 +164,7 @@ yes_actor p a e = elim (or_cases (nat_le 1 a && nat_le a (length p.clients)) (na
   | inr h ↦ Healer (grind (arith, nat_tests, h)) (grind (arith, nat_tests, h))
 ]
 
-actor_low : (p : Plan) (a : ℕ) → length p.clients ≤ 16 → length p.healers ≤ 3 → IsActor p a → a < 20
+pub actor_low : (p : Plan) (a : ℕ) → length p.clients ≤ 16 → length p.healers ≤ 3 → IsActor p a → a < 20
 actor_low p a few least (Client low high) = omega (arith, high, few)
 actor_low p a few least (Healer low high) = omega (arith, high, least)
 

@@ -3,12 +3,14 @@ use Rattle.std.proofs.Common.{◌≡◌, ℕ, ◌+◌, ◌<◌, ◌≤◌, ◌==
 use Rattle.std.proofs.Math.ListN.{get_or-append}
 use Rattle.std.proofs.lemmas.Bool.Decides.{nat_tests}
 use Rattle.std.proofs.lemmas.Option.{slice_get-get_or}
+use Rattle.std.proofs.lemmas.Bool.{lt-ltb}
 use Rattle.afr_base.specs.declared.ids.ActorId.{ActorId}
 use Rattle.afr_base.specs.declared.ids.Gfid.{Gfid}
 use Rattle.afr_base.specs.declared.ids.NameId.{NameId}
 use Rattle.afr_base.specs.declared.ids.Shape.{Shape}
 use Rattle.afr_base.specs.declared.ids.What.{What}
 use Rattle.afr_base.specs.declared.ids.What.TheVariants.{File, Dir}
+use Rattle.afr_base.proofs.TestLemmas.{other_number}
 use Rattle.afr_choice.specs.Looks.{no_looks}
 use Rattle.afr_discipline.specs.declared.register.Register.{Register}
 use Rattle.afr_lines.specs.Work.{Work}
@@ -62,14 +64,8 @@ use Rattle.afr_law_client.specs.Entry.EntryTelling.{TellsIn, TransactionGoes, Wa
 use Rattle.afr_law_client.proofs.Entry.Held.{holds_first}
 use Rattle.afr_law_client.proofs.Entry.Words.{longer, on_name, path_is, place_upto, small_is, steps_are}
 
-lt_test : (a b : ℕ) → a < b → nat_lt a b ≡ true
-lt_test a b h = grind (arith, nat_tests, h)
-
 le_test : (a b : ℕ) → a < b → nat_le a b ≡ true
 le_test a b h = grind (arith, nat_tests, h)
-
-differ_test : (a b : ℕ) → a < b → (a == b) ≡ false
-differ_test a b h = grind (arith, nat_tests, h)
 
 -- a lookup steps over its whole path
 whole_of : (path : List NameId) → steps_of (command.Ls path) ≤ length (path_of (command.Ls path))
@@ -91,14 +87,14 @@ module _ (p : Plan) (c : Command) (w : Work) (read : ℕ) (object : Entry) (low 
   looks_there = let t = le_test read (steps_of c) low in rw t refl
 
   locks_there : area_here c (At read object) ≡ None
-  locks_there = let t = differ_test read (steps_of c) low in let u = differ_test read (length (path_of c)) (omega (arith, low, short)) in rw (t, u) (never (is_rmdir c))
+  locks_there = let t = other_number read (steps_of c) low in let u = other_number read (length (path_of c)) (omega (arith, low, short)) in rw (t, u) (never (is_rmdir c))
     where
       never : (x : Bool) → (if x && false then Some (Name object.gfid None) else None) ≡ None
       never true = refl
       never false = refl
 
   path_there : by_path p c (At read object) w ≡ on_way p.shape object w
-  path_there = let t = lt_test read (steps_of c) low in rw t refl
+  path_there = let t = lt-ltb read (steps_of c) low in rw t refl
 
   refusal_there : too_large c ≡ None → place_by p c w ≡ At read object → refusal p c w ≡ or_else (read_refused w) (on_way p.shape object w)
   refusal_there small place =

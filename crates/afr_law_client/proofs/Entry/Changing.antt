@@ -40,6 +40,7 @@ use Rattle.afr_client_transaction.specs.Progress.{TransactionProgress, asks, is_
 use Rattle.afr_client_transaction.specs.Sound.{Sound}
 use Rattle.afr_client_transaction.specs.declared.stage.Stage.{Stage}
 use Rattle.afr_client_transaction.specs.declared.stage.Stage.TheVariants.{Locking, Looking, Beginning, Preparing, Applying, Posting, Closing}
+use Rattle.afr_client_transaction.proofs.ReadLemmas.{begins_at}
 use Rattle.afr_client_walk.specs.declared.walk.Walk.{Walk}
 use Rattle.afr_client_entry.specs.Entry.{HasReader, IsChanging, fits_stage, found_by, name_noted, reads_name, settled}
 use Rattle.afr_client_entry.specs.Job.{change_of, name_of, ruled_by, ruled_out}
@@ -57,15 +58,6 @@ use Rattle.afr_law_client.proofs.Entry.Names as name_told
 use Rattle.afr_law_client.proofs.Entry.Names.{NameTold}
 use Rattle.afr_law_client.proofs.Entry.Under.{area_there, place_more, refused_by_locks}
 use Rattle.afr_law_client.proofs.Entry.Words.{asked_is, given_fits, name_at, named_is, object_is, path_is, steps_are, unread_fits}
-
-pub begins_at : (stage : Stage) → is_beginning stage ≡ true → stage ≡ Beginning
-begins_at Beginning e = refl
-begins_at Locking e = absurd (cc e)
-begins_at Looking e = absurd (cc e)
-begins_at Preparing e = absurd (cc e)
-begins_at Applying e = absurd (cc e)
-begins_at Posting e = absurd (cc e)
-begins_at Closing e = absurd (cc e)
 
 le_self : (n : ℕ) → nat_le n n ≡ true
 le_self n = grind (arith, nat_tests)

@@ -19,7 +19,7 @@ use Rattle.afr_lines.specs.declared.request.Request.TheVariants as request_of
 use Rattle.afr_lines.specs.declared.request.Request.TheVariants.{Look, ReadName, ReadBytes, ReadAttr, List as ListNames}
 use Rattle.afr_model_moves.specs.Rules.{busy, is_area}
 use Rattle.afr_model_moves.specs.Sets.{any}
-use Rattle.afr_model_moves.proofs.AreaLemmas.{own_area}
+use Rattle.afr_model_moves.proofs.AreaLemmas.{own_area, same_area_self}
 use Rattle.afr_object.specs.Tables.{object_of}
 use Rattle.afr_object.specs.declared.change.Change.{Change}
 use Rattle.afr_lines.specs.declared.lock.Domain.TheVariants.{Work as WorkDomain}
@@ -35,7 +35,6 @@ use Rattle.afr_client_transaction.specs.declared.stage.Stage.{Stage}
 use Rattle.afr_client_transaction.specs.declared.stage.Stage.TheVariants.{Locking, Looking, Beginning, Preparing, Applying, Posting, Closing}
 use Rattle.afr_client_transaction.proofs.Parts.{any_member, any_nothing, no_or, none_at}
 use Rattle.afr_client_transaction.proofs.Requests.{after_outside, locked_w, noted_is}
-use Rattle.afr_law_client.proofs.Small.{area_self}
 use Rattle.afr_client_entry.specs.Entry.{fits_stage}
 use Rattle.afr_client_entry.specs.declared.stage.Found.TheVariants.{Unread}
 use Rattle.afr_law_client.specs.Removal.RemovalTelling.{releases}
@@ -89,10 +88,10 @@ module _ (change : Change) (r : Register) (a : ActorId) (b : BrickId) (took : Bo
   lock_by : (w o : Bool) → busy r.shape.n (seen_as r).law ≡ w → (w ≡ true → o ≡ true) → (told : Told) (c : ℕ)
       → member (locked_w w o r area b.0 told).held c ≡ member (holding area (Ask a b (request_of.Lock WorkDomain area) told took) s) c
   lock_by true false e own told c = absurd (cc (own refl))
-  lock_by true true e own as_told.Granted c = rw (area_self area) (same_added r b r.held s h c)
+  lock_by true true e own as_told.Granted c = rw (same_area_self area) (same_added r b r.held s h c)
   lock_by true true e own as_told.NotConnected c = same_removed r b r.held s h c
   lock_by true true e own told c = h c
-  lock_by false o e own as_told.Granted c = rw (area_self area) (same_added r b [] s (λ x. free_of e x) c)
+  lock_by false o e own as_told.Granted c = rw (same_area_self area) (same_added r b [] s (λ x. free_of e x) c)
   lock_by false o e own as_told.NotConnected c = same_removed r b [] s (λ x. free_of e x) c
   lock_by false o e own told c = free_of e c
 

@@ -27,6 +27,7 @@ use Rattle.afr_model.specs.Standing.{holding, place_by}
 use Rattle.afr_model.specs.Tables.{entry_at, holds}
 use Rattle.afr_client_transaction.specs.Progress.{TransactionProgress, is_beginning}
 use Rattle.afr_client_transaction.proofs.Requests.{noted_is}
+use Rattle.afr_client_transaction.proofs.ReadLemmas.{begins_at}
 use Rattle.afr_client_walk.specs.declared.walk.Walk.{Walk}
 use Rattle.afr_client_entry.specs.Entry.{IsChanging, found_by, name_noted, or_removes, reads_name, settled}
 use Rattle.afr_client_entry.specs.Job.{child_by, ruled_out}
@@ -39,7 +40,7 @@ use Rattle.afr_client_entry.specs.Removals.Sound.{IsRemoval}
 use Rattle.afr_law_client.specs.Removal.RemovalTelling.{HasLed, IsOfPath, RemovalTells, dir_at}
 use Rattle.afr_law_client.proofs.Removal.First.{begins}
 use Rattle.afr_law_client.specs.Entry.EntryTelling.{CanName, HoldsName, IsUnread, TellsIn, TransactionGoes, WasGiven, command_of}
-use Rattle.afr_law_client.proofs.Entry.Changing.{begins_at, given, goes_on}
+use Rattle.afr_law_client.proofs.Entry.Changing.{given, goes_on}
 use Rattle.afr_law_client.proofs.Entry.Names as name_told
 use Rattle.afr_law_client.proofs.Entry.Names.{NameTold}
 use Rattle.afr_law_client.proofs.Entry.Under.{place_more}

@@ -26,6 +26,7 @@ use Rattle.afr_model.specs.Showing.{Path, At, begins_attempt, has, path_by, refu
 use Rattle.afr_model.specs.Standing.{area_here, place_by}
 use Rattle.afr_client_transaction.specs.Progress.{TransactionProgress, begun, fed, is_beginning, next_at as next_change}
 use Rattle.afr_client_transaction.specs.Sound.{Sound}
+use Rattle.afr_client_transaction.proofs.NoteLemmas.{fed_change}
 use Rattle.afr_client_entry.specs.Job.{change_of}
 use Rattle.afr_client_entry.specs.declared.job.EntryJob.{EntryJob}
 use Rattle.afr_client_entry.specs.declared.stage.Found.{Found}
@@ -39,7 +40,7 @@ use Rattle.afr_law_client.proofs.Calm.{calm_kept}
 use Rattle.afr_law_client.proofs.Kept.{tells_kept}
 use Rattle.afr_law_client.proofs.Small.{self}
 use Rattle.afr_law_client.specs.Write.WriteTelling.{AreFitting, CanTell}
-use Rattle.afr_law_client.proofs.Write.Goes.{asked_stage, begun_fed, begun_stage, fed_same, fitting_more, of_stage}
+use Rattle.afr_law_client.proofs.Write.Goes.{asked_stage, begun_fed, begun_stage, fitting_more, of_stage}
 use Rattle.afr_law_client.specs.Entry.EntryTelling.{TransactionGoes, NameTells, ByFault, ByName, WasGiven, command_of}
 use Rattle.afr_law_client.proofs.Entry.Names.{Quiet, upto_stays}
 use Rattle.afr_law_client.proofs.Entry.Words.{area_is, place_upto, refused_there}
@@ -68,7 +69,7 @@ module _ (p : Plan) (lines : Work) (a : ActorId) (log : List Line) (t : Transact
     tells = tells_kept p lines t a told line log sound k.tells is;
     excused = excused_kept p lines t a told line log sound k.tells is fits phase k.excused;
     calm = calm_kept p lines t a told line log sound k.tells is phase k.calm;
-    fitting = subst (λ (x : Change). AreFitting p.shape.n x ((line, log) ∷ lines)) (sym (fed_same t.stage told (length log) t)) fitting;
+    fitting = subst (λ (x : Change). AreFitting p.shape.n x ((line, log) ∷ lines)) (sym (fed_change t.stage told (length log) t)) fitting;
   }
 
   -- after a request, which is one of a change

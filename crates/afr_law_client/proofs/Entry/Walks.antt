@@ -1,9 +1,10 @@
 -- A line of the walk to the directory, and where its path stands after it.
 use Rattle.std.proofs.Common.{◌≡◌, ◌≢◌, ◌⊎◌, ℕ, ◌+◌, ◌<◌, ◌==◌, Bool, true, false, List, ◌∷◌, Option, Some, None, length, refl, sym, ap, ◌∙◌, subst, arith, if◌then◌else◌, inl, inr}
-use Rattle.std.proofs.lemmas.Bool.Decides.{nat_tests, eqb_tells}
+use Rattle.std.proofs.lemmas.Bool.Decides.{eqb_tells}
 use Rattle.afr_base.specs.declared.ids.ActorId.{ActorId}
 use Rattle.afr_base.specs.declared.ids.BrickId.{BrickId}
 use Rattle.afr_base.specs.declared.ids.NameId.{NameId}
+use Rattle.afr_base.proofs.TestLemmas.{other_number}
 use Rattle.afr_lines.specs.Told.{told_by}
 use Rattle.afr_lines.specs.Work.{Work}
 use Rattle.afr_lines.specs.declared.answer.Answer.{Answer}
@@ -30,20 +31,18 @@ use Rattle.afr_client_walk.specs.declared.walk.WalkStep.TheVariants as walking
 use Rattle.afr_client_walk.proofs.WalkLemmas.{is_walked}
 use Rattle.afr_client_entry.specs.Entry.{after_walk}
 use Rattle.afr_client_entry.specs.declared.job.EntryJob.{EntryJob}
+use Rattle.afr_client_entry.proofs.Renames.RenameLemmas.{walked_path}
 use Rattle.afr_law_client.specs.Read.Lines.{CanAnswer}
 use Rattle.afr_law_client.specs.Read.WalkTelling.{TellsAt, WalkTells}
-use Rattle.afr_law_client.proofs.Read.Walking.{path_kept, walk_tells_more}
+use Rattle.afr_law_client.proofs.Read.Walking.{walk_tells_more}
 use Rattle.afr_law_client.specs.Entry.EntryTelling.{EntryTells, TellsIn, Walks, command_of}
 use Rattle.afr_law_client.proofs.Entry.Begins.{IsOnWay, moved, read_in}
 use Rattle.afr_law_client.proofs.Entry.Names.{Found, Fails, Lost, NameTold, name_told, upto_more}
 
-differ_test : (a b : ℕ) → a < b → (a == b) ≡ false
-differ_test a b h = grind (arith, nat_tests, h)
-
-at_most : (k t : ℕ) (object : Entry) → t < k → (path : Path) → path ≡ At t object → IsOnWay k path
+pub at_most : (k t : ℕ) (object : Entry) → t < k → (path : Path) → path ≡ At t object → IsOnWay k path
 at_most k t object l path e read o f = subst (λ (n : ℕ). n < k) (ap read_in (sym e ∙ f)) l
 
-none_at : (k : ℕ) (path : Path) → (path ≡ NoName) ⊎ (path ≡ Untold) → IsOnWay k path
+pub none_at : (k : ℕ) (path : Path) → (path ≡ NoName) ⊎ (path ≡ Untold) → IsOnWay k path
 none_at k path (inl e) read object f = absurd (cc (e, f))
 none_at k path (inr e) read object f = absurd (cc (e, f))
 
@@ -91,8 +90,8 @@ module _ (p : Plan) (w : Walk) (lines : Work) (a : ActorId) (chosen : BrickId) (
 
   -- the path without its last name goes on with the whole path
   upto_on : (step : WalkStep) → is_walking step ≡ true → IsStep w.shape.n (length w.path) w.read step → TellsAt p (command.Ls w.path) step w.read w.object lines → path_upto (length w.path) p (more step) ≡ path_by p (more step)
-  upto_on (walking.Looking s) h i t = upto_more (length w.path) p lines (Ask a (next_at (walking.Looking s) w).0 (next_at (walking.Looking s) w).1 (told_by heard) took) log w.read w.object k.upto t.0.path (differ_test w.read (length w.path) i.1)
-  upto_on (walking.Naming b) h i t = upto_more (length w.path) p lines (Ask a b (ReadName w.object.gfid (name_in w)) (told_by heard) took) log w.read w.object k.upto t.0.path (differ_test w.read (length w.path) i.1)
+  upto_on (walking.Looking s) h i t = upto_more (length w.path) p lines (Ask a (next_at (walking.Looking s) w).0 (next_at (walking.Looking s) w).1 (told_by heard) took) log w.read w.object k.upto t.0.path (other_number w.read (length w.path) i.1)
+  upto_on (walking.Naming b) h i t = upto_more (length w.path) p lines (Ask a b (ReadName w.object.gfid (name_in w)) (told_by heard) took) log w.read w.object k.upto t.0.path (other_number w.read (length w.path) i.1)
   upto_on walking.Arrived h i t = absurd (cc h)
   upto_on (walking.Stopped why) h i t = absurd (cc h)
 
@@ -108,7 +107,7 @@ module _ (p : Plan) (w : Walk) (lines : Work) (a : ActorId) (chosen : BrickId) (
       after = walked chosen heard (length log) w
 
       kept : after.path ≡ w.path
-      kept = path_kept chosen heard (length log) w
+      kept = walked_path chosen heard (length log) w
 
       same : command_of job after.path ≡ c
       same = ap (λ (path : List NameId). command_of job path) kept ∙ sym of

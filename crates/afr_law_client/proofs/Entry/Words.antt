@@ -9,6 +9,7 @@ use Rattle.afr_base.specs.declared.ids.Kind.TheVariants.{Names}
 use Rattle.afr_base.specs.declared.ids.NameId.{NameId}
 use Rattle.afr_base.specs.declared.ids.What.{What}
 use Rattle.afr_base.specs.declared.ids.What.TheVariants.{File, Dir}
+use Rattle.afr_base.proofs.TestLemmas.{not_below_itself}
 use Rattle.afr_discipline.specs.Tests.{ends_low, fits_view}
 use Rattle.afr_lines.specs.Areas.{area_for, kind_for}
 use Rattle.afr_lines.specs.Work.{Work}
@@ -30,6 +31,7 @@ use Rattle.afr_client_entry.specs.Job.{change_of, name_of, reply_to, ruled_by}
 use Rattle.afr_client_entry.specs.declared.job.EntryJob.{EntryJob}
 use Rattle.afr_client_entry.specs.declared.job.EntryJob.TheVariants.{Create, Mkdir, Unlink, Rmdir}
 use Rattle.afr_client_entry.specs.declared.refusal.Refusal.{Refusal}
+use Rattle.afr_client_entry.proofs.AskedLemmas.{of_names}
 use Rattle.afr_client_entry.specs.declared.refusal.Refusal.TheVariants as refusal_of
 use Rattle.afr_law_client.specs.Entry.EntryTelling.{command_of}
 
@@ -98,12 +100,6 @@ object_is g (Mkdir name) = refl
 object_is g (Unlink name) = refl
 object_is g (Rmdir name) = refl
 
-pub kind_is : (g : Gfid) (job : EntryJob) → kind_for (change_of g job) ≡ Names
-kind_is g (Create name) = refl
-kind_is g (Mkdir name) = refl
-kind_is g (Unlink name) = refl
-kind_is g (Rmdir name) = refl
-
 pub low_is : (g : Gfid) (job : EntryJob) → ends_low (change_of g job) ≡ true
 low_is g (Create name) = refl
 low_is g (Mkdir name) = refl
@@ -128,9 +124,6 @@ suits_view g job dir view is same = fits_dir g job view (same ∙ dir_is dir.wha
 pub place_upto : (p : Plan) (job : EntryJob) (path : List NameId) (w : Work) → place_by p (command_of job path) w ≡ path_upto (steps_of (command_of job path)) p w
 place_upto p job path w = let on = on_name job path in rw on refl
 
-not_less : (n : ℕ) → nat_lt n n ≡ false
-not_less n = grind (arith, nat_tests)
-
 -- at its directory it is refused by its locks, or else by its name
 pub refused_there : (p : Plan) (job : EntryJob) (path : List NameId) (dir : Entry) (w : Work) → place_by p (command_of job path) w ≡ At (steps_of (command_of job path)) dir → is_dir dir.what ≡ true
     → refusal p (command_of job path) w
@@ -147,13 +140,13 @@ refused_there p job path dir w place is =
     dir_there = let d = dir_is dir.what is in rw d refl
 
     locks : by_area p.shape Names (area_on dir.gfid c) w ≡ by_locks p.shape (kind_for (change_of dir.gfid job)) (area_for (change_of dir.gfid job)) w
-    locks = rw (area_is job path dir.gfid, kind_is dir.gfid job) refl
+    locks = rw (area_is job path dir.gfid, of_names dir.gfid job) refl
 
     there : by_path p c (At (steps_of c) dir) w ≡ or_else (by_locks p.shape (kind_for (change_of dir.gfid job)) (area_for (change_of dir.gfid job)) w) (by_name p c dir (path_by p w) w)
     there = at_end_is ∙ dir_there ∙ ap (λ (x : Option Reply). or_else x (by_name p c dir (path_by p w) w)) locks
       where
         at_end_is : by_path p c (At (steps_of c) dir) w ≡ in_directory p c dir w
-        at_end_is = rw (not_less (steps_of c), on_name job path) refl
+        at_end_is = rw (not_below_itself (steps_of c), on_name job path) refl
 
 -- ---- the last name
 less_one : (path : List NameId) (name : NameId) → nat_lt (length (path ++ name ∷ []) - 1) (length (path ++ name ∷ [])) ≡ true

@@ -3,6 +3,7 @@ use Rattle.std.proofs.Common.{◌≡◌, ℕ, ◌+◌, ◌==◌, nat_lt, Bool, t
 use Rattle.std.proofs.lemmas.Bool.Decides.{nat_tests}
 use Rattle.afr_base.specs.declared.ids.Kind.{Kind}
 use Rattle.afr_base.specs.declared.ids.Kind.TheVariants.{Bytes, Attrs}
+use Rattle.afr_base.proofs.TestLemmas.{same_number, one_value}
 use Rattle.afr_choice.specs.Verdict.{holders_of}
 use Rattle.afr_lines.specs.Areas.{area_for, kind_for}
 use Rattle.afr_lines.specs.Work.{Work}
@@ -29,12 +30,6 @@ use Rattle.afr_law_client.specs.Read.ChangeLaws.{ChangeKeepsPath, ChangesStand, 
 use Rattle.afr_law_client.proofs.Read.Ended.{answered_end, refused_end, refusal_end}
 use Rattle.afr_law_client.proofs.Read.Walking.{looks_on_way, place_whole, rmdir_none, steps_whole}
 
-just : {A : Type 0} → (x y : A) → Some x ≡ Some y → x ≡ y
-just x y e = cc e
-
-self : (n : ℕ) → (n == n) ≡ true
-self n = grind (arith, nat_tests)
-
 -- a test that must fail, where something is there
 not_none : {A : Type 0} → (test : Bool) (x y : A) → (if test then None else Some x) ≡ Some y → test ≡ false
 not_none true x y e = absurd (cc e)
@@ -48,27 +43,27 @@ whole_is (command.SetAttr path key value) object change k = refl
 whole_is other object change k = absurd (cc k.named)
 
 object_named : (c : Command) (object : Entry) (change : Change) → IsChangeOf c object change → object_of change ≡ object.gfid
-object_named (command.Write path at bytes) object change k = sym (ap object_of (just (change_of.Write object.gfid at bytes) change k.named))
-object_named (command.Cut path len) object change k = sym (ap object_of (just (change_of.Cut object.gfid len) change k.named))
-object_named (command.SetAttr path key value) object change k = sym (ap object_of (just (change_of.SetAttr object.gfid key value) change k.named))
+object_named (command.Write path at bytes) object change k = sym (ap object_of (one_value (change_of.Write object.gfid at bytes) change k.named))
+object_named (command.Cut path len) object change k = sym (ap object_of (one_value (change_of.Cut object.gfid len) change k.named))
+object_named (command.SetAttr path key value) object change k = sym (ap object_of (one_value (change_of.SetAttr object.gfid key value) change k.named))
 object_named other object change k = absurd (cc k.named)
 
 refused_by : (p : Plan) (c : Command) (object : Entry) (change : Change) (w : Work) → IsChangeOf c object change → at_object p c object w ≡ by_locks p.shape (kind_for change) (area_for change) w
 refused_by p (command.Write path at bytes) object change w k =
     file ∙ ap (λ (area : Option Area). by_area p.shape Bytes area w) k.locks
-    ∙ ap (λ (kind : Kind). by_locks p.shape kind (area_for change) w) (ap kind_for (just (change_of.Write object.gfid at bytes) change k.named))
+    ∙ ap (λ (kind : Kind). by_locks p.shape kind (area_for change) w) (ap kind_for (one_value (change_of.Write object.gfid at bytes) change k.named))
   where
     file : at_object p (command.Write path at bytes) object w ≡ by_area p.shape Bytes (area_on object.gfid (command.Write path at bytes)) w
     file = rw k.suits refl
 refused_by p (command.Cut path len) object change w k =
     file ∙ ap (λ (area : Option Area). by_area p.shape Bytes area w) k.locks
-    ∙ ap (λ (kind : Kind). by_locks p.shape kind (area_for change) w) (ap kind_for (just (change_of.Cut object.gfid len) change k.named))
+    ∙ ap (λ (kind : Kind). by_locks p.shape kind (area_for change) w) (ap kind_for (one_value (change_of.Cut object.gfid len) change k.named))
   where
     file : at_object p (command.Cut path len) object w ≡ by_area p.shape Bytes (area_on object.gfid (command.Cut path len)) w
     file = rw k.suits refl
 refused_by p (command.SetAttr path key value) object change w k =
     ap (λ (area : Option Area). by_area p.shape Attrs area w) k.locks
-    ∙ ap (λ (kind : Kind). by_locks p.shape kind (area_for change) w) (ap kind_for (just (change_of.SetAttr object.gfid key value) change k.named))
+    ∙ ap (λ (kind : Kind). by_locks p.shape kind (area_for change) w) (ap kind_for (one_value (change_of.SetAttr object.gfid key value) change k.named))
 refused_by p other object change w k = absurd (cc k.named)
 
 answered_by : (p : Plan) (c : Command) (object : Entry) (change : Change) (w : Work) → IsChangeOf c object change → answer p c w ≡ by_posts p.shape w
@@ -105,7 +100,7 @@ stands p c object change w k there = record {
     place = place_whole p c w whole ∙ there.led ∙ ap (λ (n : ℕ). At n object) (sym (steps_whole c whole))
 
     at_steps : (length (path_of c) == steps_of c) ≡ true
-    at_steps = subst (λ (n : ℕ). (length (path_of c) == n) ≡ true) (sym (steps_whole c whole)) (self (length (path_of c)))
+    at_steps = subst (λ (n : ℕ). (length (path_of c) == n) ≡ true) (sym (steps_whole c whole)) (same_number (length (path_of c)))
 
     area_there : area_here c (At (length (path_of c)) object) ≡ area_on object.gfid c
     area_there = rw at_steps refl
@@ -135,7 +130,7 @@ pub large : LargeEnds
 large p c said e = refused_end p c [] tt (λ g m b l. absurd (cc m)) (whole c e) said (rw e refl) (λ h. absurd (cc (plain c e, h))) (λ h. absurd (other c e h))
   where
     cases : (test : Bool) (c : Command) → (if test then Some reply.TooLarge else None) ≡ Some said → said ≡ reply.TooLarge
-    cases true c e = sym (just reply.TooLarge said e)
+    cases true c e = sym (one_value reply.TooLarge said e)
     cases false c e = absurd (cc e)
 
     is_large : (c : Command) → too_large c ≡ Some said → said ≡ reply.TooLarge

@@ -1,6 +1,6 @@
 -- What the lines show after one look more, at an object on the way or at the path's end.
-use Rattle.std.proofs.Common.{◌≡◌, ℕ, ◌<◌, ◌≤◌, ◌&&◌, nat_lt, Bool, true, List, [], ◌∷◌, refl, sym, subst, arith, if◌then◌else◌}
-use Rattle.std.proofs.lemmas.Bool.Decides.{nat_tests}
+use Rattle.std.proofs.Common.{◌≡◌, ℕ, ◌<◌, ◌≤◌, ◌&&◌, Bool, true, List, [], ◌∷◌, refl, sym, subst, arith, if◌then◌else◌}
+use Rattle.std.proofs.lemmas.Bool.{and_from, lt-ltb}
 use Rattle.afr_base.specs.Bricks.{added, lowest, is_nothing, member}
 use Rattle.afr_base.specs.declared.ids.ActorId.{ActorId}
 use Rattle.afr_base.specs.declared.ids.BrickId.{BrickId}
@@ -26,16 +26,10 @@ use Rattle.afr_law_client.specs.Read.WalkTelling.{GoesOn}
 use Rattle.afr_law_client.proofs.Read.LooksMore.{agree_more, all_asked, looks_are}
 use Rattle.afr_law_client.proofs.Read.Quiet.{all_from_but, looked_but_more, looked_more, looking_more, plain_by}
 
-lt_test : (a b : ℕ) → a < b → nat_lt a b ≡ true
-lt_test a b h = grind (arith, nat_tests, h)
-
-pair : (x y : Bool) → x ≡ true → y ≡ true → (x && y) ≡ true
-pair x y h k = rw (h, k) refl
-
 -- a look or a read joins a work of looks and reads
 pub only_more : (n : ℕ) (a : ActorId) (b : BrickId) (request : Request) (told : Told) (took : Bool) (log : List Line) (w : Work) → b.0 < n → is_free request ≡ true → OnlyReads n w
     → OnlyReads n ((Ask a b request told took, log) ∷ w)
-only_more n a b request told took log w low free k = (pair _ _ (lt_test b.0 n low) free, k)
+only_more n a b request told took log w low free k = (and_from _ _ (lt-ltb b.0 n low) free, k)
 
 -- the lines with a look of the lowest brick that is left
 abbrev pub look_line : Plan → Entry → ActorId → Bool → List Line → Looks → Told → Work → Work

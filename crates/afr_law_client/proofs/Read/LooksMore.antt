@@ -17,6 +17,7 @@ use Rattle.afr_law_client.specs.Read.Looks.{IsPlain, Agree}
 use Rattle.afr_base.specs.Rising.{IsRising}
 use Rattle.afr_law_client.proofs.Read.LooksSame.{looked_same}
 use Rattle.afr_base.proofs.RisingLemmas.{rising_added, rising_removed}
+use Rattle.afr_base.proofs.TestLemmas.{same_number, or_second}
 
 -- a look shows what its answer does
 pub look_shows_is : (b : ℕ) (told : Told) (looked : Looked) → look_shows b told looked ≡ noted_look b told looked
@@ -24,14 +25,11 @@ look_shows_is b (as_told.Seen view) looked = refl
 look_shows_is b as_told.NoObject looked = refl
 look_shows_is b told looked = refl
 
-itself : (b : ℕ) → (b == b) ≡ true
-itself b = grind (arith, nat_tests)
-
 here_added : (b : ℕ) (s : List ℕ) → member (added b s) b ≡ true
-here_added b s = let e = member_added b s b in rw (e, itself) refl
+here_added b s = let e = member_added b s b in rw (e, same_number) refl
 
 here_removed : (b : ℕ) (s : List ℕ) → member (removed b s) b ≡ false
-here_removed b s = let e = member_removed b s b in rw (e, itself) refl
+here_removed b s = let e = member_removed b s b in rw (e, same_number) refl
 
 -- ---- of one brick
 pub same_here : (b : ℕ) (told : Told) (x y : Looked) → b < 5 → length x.views ≡ 5 → length y.views ≡ 5
@@ -127,16 +125,8 @@ agree_more n told s asked looked few low plain k = record {
     five : b < 5
     five = omega (arith, few, low)
 
-    left : (x y : Bool) → x ≡ false → (x || y) ≡ true → y ≡ true
-    left true y e h = absurd (cc e)
-    left false y e h = h
-
-    right : (x y : Bool) → y ≡ true → (x || y) ≡ true
-    right true y h = refl
-    right false y h = h
-
     before : (c : ℕ) → (b == c) ≡ false → member (added b s.asked) c ≡ true → member s.asked c ≡ true
-    before c e m = left (b == c) (member s.asked c) e (sym (member_added b s.asked c) ∙ m)
+    before c e m = or_second (b == c) (member s.asked c) e (sym (member_added b s.asked c) ∙ m)
 
     known : (c : ℕ) → member (added b s.asked) c ≡ true → (e : Bool) → (b == c) ≡ e → (e || member asked c) ≡ true
     known c m true e = refl

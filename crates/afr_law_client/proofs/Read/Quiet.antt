@@ -6,6 +6,7 @@ use Rattle.afr_base.specs.Bricks.{added, member}
 use Rattle.afr_base.specs.declared.ids.ActorId.{ActorId}
 use Rattle.afr_base.specs.declared.ids.BrickId.{BrickId}
 use Rattle.afr_base.specs.declared.ids.Gfid.{Gfid}
+use Rattle.afr_base.proofs.TestLemmas.{same_number}
 use Rattle.afr_choice.specs.declared.looked.Looked.{Looked}
 use Rattle.afr_lines.specs.Work.{Work}
 use Rattle.afr_lines.specs.declared.answer.Told.{Told}
@@ -100,16 +101,14 @@ plain_by n g [] few h = plain_none n
 plain_by n g (x ∷ w) few h = plain_line n g x.0 (looked_by g w) few h.0 (plain_by n g w few h.1)
 
 -- ---- a look more
-self : (n : ℕ) → (n == n) ≡ true
-self n = grind (arith, nat_tests)
 
 pub looked_more : (g : Gfid) (a : ActorId) (b : BrickId) (told : Told) (took : Bool) (log : List Line) (w : Work)
     → looked_by g ((Ask a b (Look g) told took, log) ∷ w) ≡ noted_look b.0 told (looked_by g w)
-looked_more g a b told took log w = rw self (look_shows_is b.0 told (looked_by g w))
+looked_more g a b told took log w = rw same_number (look_shows_is b.0 told (looked_by g w))
 
 pub looking_more : (g : Gfid) (a : ActorId) (b : BrickId) (told : Told) (took : Bool) (log : List Line) (w : Work)
     → among (looking g) ((Ask a b (Look g) told took, log) ∷ w) ≡ added b.0 (among (looking g) w)
-looking_more g a b told took log w = rw self refl
+looking_more g a b told took log w = rw same_number refl
 
 -- an object of which every brick has been asked but this one's
 pub looked_but_more : (n : ℕ) (g : Gfid) (a : ActorId) (b : BrickId) (told : Told) (took : Bool) (log : List Line) (w : Work) → LookedBut n g w → LookedBut n g ((Ask a b (Look g) told took, log) ∷ w)

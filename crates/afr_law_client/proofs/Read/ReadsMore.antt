@@ -60,7 +60,8 @@ use Rattle.afr_law_client.proofs.Read.LookHeard.{only_more}
 use Rattle.afr_law_client.proofs.Read.Quiet.{begins_none}
 use Rattle.afr_law_client.proofs.Read.ReadsTell.{area_nowhere, large_none, look_tells, moved, path_is, place_at, refusal_at, refusal_looks, suited_is, whole_of}
 use Rattle.afr_law_client.proofs.Read.WalksEnd.{walk_follows}
-use Rattle.afr_law_client.proofs.Read.Walking.{looks_on_way, path_kept, walk_about, walk_tells_more}
+use Rattle.afr_law_client.proofs.Read.Walking.{looks_on_way, walk_about, walk_tells_more}
+use Rattle.afr_client_entry.proofs.Renames.RenameLemmas.{walked_path}
 
 -- ---- what a copy gives
 abbrev gives : Wanted → Object → Answer
@@ -223,7 +224,7 @@ module _ (p : Plan) (m : Lookup) (lines : Work) (a : ActorId) (took : Bool) (sou
       let walks : WalkTells p (command_of m.job w.path) (walked chosen heard at w) more = walk_tells_more p (command_of m.job w.path) w lines a chosen heard took log at sound.sound ready t can among in
       record {
         shape = walks.shape;
-        stage = moved p few m.job (walked chosen heard at w) more (is_walked chosen heard at w sound.sound ready among) (subst (λ (x : List NameId). WalkTells p (command_of m.job x) (walked chosen heard at w) more) (sym (path_kept chosen heard at w)) walks);
+        stage = moved p few m.job (walked chosen heard at w) more (is_walked chosen heard at w sound.sound ready among) (subst (λ (x : List NameId). WalkTells p (command_of m.job x) (walked chosen heard at w) more) (sym (walked_path chosen heard at w)) walks);
       }
   tells_at chosen heard log at (Looking s) ready (there, agree, but) h can among = record {
     shape = k.shape;

@@ -1,8 +1,9 @@
 -- The lines of a work show where its walk stands, and each line is about the command.
-use Rattle.std.proofs.Common.{◌≡◌, ◌≢◌, ℕ, ◌+◌, ◌<◌, ◌≤◌, ◌==◌, nat_lt, nat_le, Bool, true, false, List, [], ◌∷◌, Option, Some, None, length, refl, sym, ap, ◌∙◌, subst, arith, if◌then◌else◌, inl, inr, ◌⊎◌}
+use Rattle.std.proofs.Common.{◌≡◌, ◌≢◌, ℕ, ◌+◌, ◌<◌, ◌≤◌, ◌==◌, nat_lt, Bool, true, false, List, [], ◌∷◌, Option, Some, None, length, refl, sym, ap, ◌∙◌, subst, arith, if◌then◌else◌, inl, inr, ◌⊎◌}
 use Rattle.std.specs.BTreeMap.{is_at}
 use Rattle.std.specs.Map.{lookup}
-use Rattle.std.proofs.lemmas.Bool.Decides.{nat_tests, eqb_tells}
+use Rattle.std.proofs.lemmas.Bool.Decides.{eqb_tells}
+use Rattle.std.proofs.lemmas.Bool.{lt-ltb}
 use Rattle.afr_base.specs.Bricks.{lowest, is_nothing, member}
 use Rattle.afr_base.specs.declared.ids.ActorId.{ActorId}
 use Rattle.afr_base.specs.declared.ids.BrickId.{BrickId}
@@ -11,6 +12,7 @@ use Rattle.afr_base.specs.declared.ids.Kind.{Kind}
 use Rattle.afr_base.specs.declared.ids.Kind.TheVariants.{Names}
 use Rattle.afr_base.specs.declared.ids.NameId.{NameId}
 use Rattle.afr_base.specs.declared.ids.Shape.{Shape}
+use Rattle.afr_base.proofs.TestLemmas.{other_number}
 use Rattle.afr_object.specs.Tables.{is_dir, copy_at, name_cmp, root_entry}
 use Rattle.afr_object.specs.declared.entry.Entry.{Entry}
 use Rattle.afr_object.specs.Object.{Object}
@@ -57,16 +59,9 @@ use Rattle.afr_law_client.specs.Read.WalkTelling.{GoesOn, Stops, TellsAt, WalkTe
 use Rattle.afr_law_client.proofs.Read.LookHeard.{LookTells, among_lines, look_known, look_line, only_more}
 use Rattle.afr_law_client.proofs.Read.LooksMore.{agree_first}
 use Rattle.afr_law_client.proofs.Read.Quiet.{begins_none, but_from_all}
+use Rattle.afr_discipline.proofs.Decides.{le_test}
 
 -- ---- small facts
-lt_test : (a b : ℕ) → a < b → nat_lt a b ≡ true
-lt_test a b h = grind (arith, nat_tests, h)
-
-le_test : (a b : ℕ) → a ≤ b → nat_le a b ≡ true
-le_test a b h = grind (arith, nat_tests, h)
-
-differ_test : (a b : ℕ) → a < b → (a == b) ≡ false
-differ_test a b h = grind (arith, nat_tests, h)
 
 -- ---- where a command stands whose whole path is walked
 pub rmdir_none : (c : Command) → is_on_name c ≡ false → is_rmdir c ≡ false
@@ -85,10 +80,10 @@ looks_on_way c read object h l = rw (le_test read (steps_of c) (subst (λ (n : �
 
 -- and locks nothing before its path's end
 pub area_on_way : (c : Command) (read : ℕ) (object : Entry) → is_on_name c ≡ false → read < length (path_of c) → area_here c (At read object) ≡ None
-area_on_way c read object h l = rw (differ_test read (steps_of c) (subst (λ (n : ℕ). read < n) (sym (steps_whole c h)) l), rmdir_none c h) refl
+area_on_way c read object h l = rw (other_number read (steps_of c) (subst (λ (n : ℕ). read < n) (sym (steps_whole c h)) l), rmdir_none c h) refl
 
 before_end : (c : Command) (read : ℕ) → is_on_name c ≡ false → read < length (path_of c) → nat_lt read (steps_of c) ≡ true
-before_end c read h l = lt_test read (steps_of c) (subst (λ (n : ℕ). read < n) (sym (steps_whole c h)) l)
+before_end c read h l = lt-ltb read (steps_of c) (subst (λ (n : ℕ). read < n) (sym (steps_whole c h)) l)
 
 -- by looks with sources, the copy that is chosen is one
 pub is_source : (p : Plan) (g : Gfid) (kind : Kind) (s : List ℕ) (b : BrickId) (w : Work) → verdict_of p.shape (looked_by g w) kind ≡ Sources s → IsAmong (choices p.shape (looked_by g w) kind) b → IsSource p g kind b.0 w
@@ -296,18 +291,6 @@ walk_tells_more p c w lines a chosen heard took log at sound walks k can among =
         moved x t = record { shape = k.shape; path = k.path; whole = k.whole; step = t }
     by Arrived h i t can among = absurd (cc h)
     by (Stopped why) h i t can among = absurd (cc h)
-
--- an answer leaves the path
-pub path_kept : (chosen : BrickId) (heard : Answer) (at : ℕ) (w : Walk) → (walked chosen heard at w).path ≡ w.path
-path_kept chosen heard at w = go w.step heard
-  where
-    go : (step : WalkStep) (heard : Answer) → (walked_at chosen step heard (noted (next_in w) (told_by heard) at w)).path ≡ w.path
-    go (Looking s) heard = refl
-    go (Naming b) (answer.Entry (Some entry)) = refl
-    go (Naming b) (answer.Entry None) = refl
-    go (Naming b) heard = refl
-    go Arrived heard = refl
-    go (Stopped why) heard = refl
 
 -- no lines show a walk that begins
 pub walk_tells_first : (p : Plan) (c : Command) (names : List NameId) → is_on_name c ≡ false → names ≡ path_of c → WalkTells p c (walk_from p.shape names) []

@@ -9,6 +9,7 @@ use Rattle.afr_base.specs.declared.ids.Gfid.{Gfid}
 use Rattle.afr_base.specs.declared.ids.Kind.TheVariants.{Names}
 use Rattle.afr_base.specs.declared.ids.NameId.{NameId}
 use Rattle.afr_base.specs.declared.ids.Shape.{Shape}
+use Rattle.afr_base.proofs.TestLemmas.{one_value}
 use Rattle.afr_choice.specs.Verdict.{good_copies, holders_of}
 use Rattle.afr_choice.specs.declared.looked.Looked.{Looked}
 use Rattle.afr_discipline.specs.Notes.{asked_at}
@@ -47,9 +48,6 @@ use Rattle.afr_law_client.specs.Removal.RemovalLaws.{RemovalAbout, RemovalBlames
 use Rattle.afr_law_client.specs.Removal.RemovalTelling.{During, IsBegun, IsJudged, OnPost, RemovalGoes, Tries, dir_at}
 use Rattle.afr_law_client.proofs.Removal.Lost.{held_granted}
 use Rattle.afr_law_client.proofs.Removal.Refused.{looks_refuse}
-
-just : {A : Type 0} → (x y : A) → Some x ≡ Some y → x ≡ y
-just x y e = cc e
 
 not_before : (n : ℕ) → 0 < n → nat_le n (n - 1) ≡ false
 not_before n h = grind (arith, nat_tests, h)
@@ -156,7 +154,7 @@ module _ (p : Plan) (path : List NameId) (m : Removing) (w : Work) (s : Sound m)
       unbegun = d.opened.idle.unbegun;
       unread = d.opened.unread;
       object = looks_there p path m w s k;
-      locked = λ area here. subst (λ (x : Area). member (among (getting x) w) (brick_at Looking m) ≡ true) (just (Name m.child.gfid None) area (sym (area_there p path m w s k) ∙ here))
+      locked = λ area here. subst (λ (x : Area). member (among (getting x) w) (brick_at Looking m) ≡ true) (one_value (Name m.child.gfid None) area (sym (area_there p path m w s k) ∙ here))
           (held_granted (Name m.child.gfid None) w (brick_at Looking m) (sym (d.holds.of_child (brick_at Looking m)) ∙ common_right m.register.held m.register.second_held _ (lowest_left (both_held m.register) m.child.look_asked e).1));
     },
     tt,

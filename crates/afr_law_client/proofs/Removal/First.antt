@@ -1,5 +1,6 @@
 -- A removal that begins, where the name was just found to lead to a directory.
 use Rattle.std.proofs.Common.{◌≡◌, ℕ, ◌==◌, ◌&&◌, Bool, true, false, List, [], ◌∷◌, None, refl, sym, ap, ◌∙◌, subst, if◌then◌else◌}
+use Rattle.std.proofs.Math.Bool.{and-false}
 use Rattle.afr_base.specs.Bricks.{is_nothing, member, minus}
 use Rattle.afr_base.specs.Majority.{is_majority}
 use Rattle.afr_base.specs.SetLemmas.{majority_some, none_left}
@@ -67,11 +68,7 @@ module _ (area : Area) where
 
 -- the whole of a directory is no name's area
 whole_apart : (change : Change) → IsRemoval change → (g : Gfid) → same_area (Name g None) (area_for change) ≡ false
-whole_apart (change_of.Remove dir name what) is g = never (g.0 == dir.0)
-  where
-    never : (x : Bool) → (x && false) ≡ false
-    never true = refl
-    never false = refl
+whole_apart (change_of.Remove dir name what) is g = and-false (g.0 == dir.0)
 whole_apart (change_of.Write h at bytes) is g = absurd is
 whole_apart (change_of.Cut h len) is g = absurd is
 whole_apart (change_of.SetAttr h key value) is g = absurd is

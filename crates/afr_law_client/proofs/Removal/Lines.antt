@@ -1,5 +1,6 @@
 -- What a line of a removal leaves of its path, of the locks and looks at its directory, and of what else was locked and looked at.
 use Rattle.std.proofs.Common.{◌≡◌, ℕ, ◌-◌, ◌==◌, ◌&&◌, Bool, true, false, List, ◌∷◌, Option, Some, None, length, refl, sym, ap, ◌∙◌, subst}
+use Rattle.std.proofs.Math.Bool.{and-false}
 use Rattle.afr_base.specs.Bricks.{member}
 use Rattle.afr_base.specs.declared.ids.ActorId.{ActorId}
 use Rattle.afr_base.specs.declared.ids.BrickId.{BrickId}
@@ -19,28 +20,21 @@ use Rattle.afr_lines.specs.declared.request.Request.{Request}
 use Rattle.afr_lines.specs.declared.request.Request.TheVariants as request
 use Rattle.afr_object.specs.Tables.{object_of}
 use Rattle.afr_object.specs.declared.change.Change.{Change}
-use Rattle.afr_object.specs.declared.entry.Entry.{Entry}
 use Rattle.afr_lines.specs.declared.lock.Domain.TheVariants.{Work as WorkDomain}
 use Rattle.afr_plan.specs.declared.plan.Plan.{Plan}
 use Rattle.afr_model.specs.Showing.{Path, At, among, has, locks, looking, path_after}
 use Rattle.afr_model.specs.Skipped.{IsLooked, is_whole}
-use Rattle.afr_model.specs.Standing.{kept_at, path_upto}
 use Rattle.afr_client_entry.specs.Removals.Sound.{IsRemoval}
 use Rattle.afr_client_entry.proofs.Removals.Facts.{apart}
 use Rattle.afr_client_transaction.proofs.Parts.{no_or}
 use Rattle.afr_law_client.specs.Fits.{AreExcused, IsCalm}
 use Rattle.afr_law_client.specs.Tells.{lookups_allow}
 use Rattle.afr_law_client.proofs.Leaves.{Leaves, LeavesAll}
-use Rattle.afr_law_client.proofs.Small.{same_gfid, self}
+use Rattle.afr_law_client.proofs.Small.{same_gfid}
 use Rattle.afr_law_client.specs.Removal.RemovalTelling.{AreSets, HasLed, RemovalGoes, dir_at}
+use Rattle.afr_law_client.proofs.Entry.Names.{upto_stays}
 
 -- ---- the path
--- where it has led to the directory, it stays
-pub upto_stays : (k : ℕ) (p : Plan) (w : Work) (line : Line) (older : List Line) (object : Entry) → path_upto k p w ≡ At k object → path_upto k p ((line, older) ∷ w) ≡ At k object
-upto_stays k p w line older object e = ap (λ (u : Path). kept_at k u (path_after p line older u)) e ∙ stays
-  where
-    stays : kept_at k (At k object) (path_after p line older (At k object)) ≡ At k object
-    stays = rw (self k) refl
 
 module _ (p : Plan) (path : List NameId) (dir child : Gfid) (older : List Line) (w : Work) (k : HasLed p path dir child w) where
   pub led_ask : (a : ActorId) (b : BrickId) (r : Request) (told : Told) (took : Bool) → (path_after p (Ask a b r told took) older (At (length path) (dir_at child)) ≡ At (length path) (dir_at child)) → HasLed p path dir child ((Ask a b r told took, older) ∷ w)
@@ -68,11 +62,7 @@ module _ (n : ℕ) (w : Work) (k : IsLooked n w) (g : Gfid) (a : ActorId) (b : B
 whole_apart : (area : Area) (g : Gfid) → is_whole area ≡ false → same_area area (Name g None) ≡ false
 whole_apart (Range h from to) g e = refl
 whole_apart (Name h None) g e = absurd (cc e)
-whole_apart (Name h (Some name)) g e = never (h.0 == g.0)
-  where
-    never : (x : Bool) → (x && false) ≡ false
-    never true = refl
-    never false = refl
+whole_apart (Name h (Some name)) g e = and-false (h.0 == g.0)
 
 -- ---- all of it
 -- a list, and the phases of the attempt

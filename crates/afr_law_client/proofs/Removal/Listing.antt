@@ -40,13 +40,12 @@ use Rattle.afr_client_transaction.specs.Progress.{may_start}
 use Rattle.afr_client_transaction.proofs.Requests.{after_outside, noted_is}
 use Rattle.afr_law_client.specs.Tells.{AreIdle, lookups_allow}
 use Rattle.afr_law_client.proofs.Calm.{calm_ask}
-use Rattle.afr_law_client.proofs.Excused.{ask_excused, begin_excused}
+use Rattle.afr_law_client.proofs.Excused.{ask_excused, begin_excused, missed_grows}
 use Rattle.afr_law_client.proofs.Leaves.{LeavesAll}
 use Rattle.afr_law_client.specs.Removal.RemovalTelling.{IsEmpty, IsJudged, IsOpen, RemovalGoes, RemovalTells}
 use Rattle.afr_law_client.proofs.Removal.Lines.{IsPlain, goes_begin, goes_plain}
 use Rattle.afr_law_client.proofs.Removal.Notes.{begin_leaves, list_leaves}
 use Rattle.afr_law_client.proofs.Removal.Refused.{answered_before, looks_refuse, refusal_is}
-use Rattle.afr_law_client.proofs.Excused.{missed_grows}
 
 -- ---- what was found of the child stays so
 module _ (p : Plan) (change : Change) (c : Child) (w : Work) (j : IsJudged p change c w) (older : List Line) where

@@ -44,13 +44,14 @@ use Rattle.afr_client_transaction.proofs.Parts.{no_or}
 use Rattle.afr_client_transaction.proofs.Requests.{locked_w, noted_is}
 use Rattle.afr_law_client.proofs.Calm.{calm_ask}
 use Rattle.afr_law_client.proofs.Excused.{ask_excused}
-use Rattle.afr_law_client.proofs.Small.{area_self, held_told, marked_new, self}
+use Rattle.afr_law_client.proofs.Small.{held_told, marked_new, self}
 use Rattle.afr_law_client.specs.Removal.RemovalTelling.{CanTell, OnLocks, OnLooks, RemovalGoes, RemovalTells, held_in, takers_by}
 use Rattle.afr_law_client.proofs.Removal.Lines.{goes_lock}
 use Rattle.afr_law_client.proofs.Removal.Lost.{held_granted}
 use Rattle.afr_law_client.proofs.Removal.Notes.{fewer_lock, lock_holds, lock_leaves, others_lock}
 use Rattle.afr_law_client.proofs.Removal.Refused.{answered_before, few_refuse}
 use Rattle.afr_law_client.proofs.Removal.Takers.{takers_suffice}
+use Rattle.afr_model_moves.proofs.AreaLemmas.{same_area_self}
 
 -- the last line has locked the child
 pub record IsFresh (child : Gfid) (w : Work) : Type 0 where
@@ -65,7 +66,7 @@ fresh_lock g a b told took older w = record {
   locked = rw (self g.0) refl;
   unseen = rw (self g.0) refl;
   unlooked = rw (self g.0) refl;
-  last = rw (area_self (Name g None)) refl;
+  last = rw (same_area_self (Name g None)) refl;
   head = rw (self g.0) refl;
 }
 
@@ -187,7 +188,7 @@ module _ (p : Plan) (path : List NameId) (m : Removing) (w : Work) (a : ActorId)
       (calm_ask a b (request.Lock WorkDomain also) told took log w tt tt k.calm)
 
   asked_now : among (asking also) more ≡ marked (not (is_held told)) b.0 (among (asking also) w)
-  asked_now = rw (area_self also) refl
+  asked_now = rw (same_area_self also) refl
 
   unasked : member (among (asking also) w) b.0 ≡ false
   unasked = subst (λ (x : List ℕ). member x b.0 ≡ false) d.asked new
@@ -213,7 +214,7 @@ module _ (p : Plan) (path : List NameId) (m : Removing) (w : Work) (a : ActorId)
   on_locks = record {
     opened = record { idle = d.opened.idle; unread = d.opened.unread; unrefused = d.opened.unrefused };
     holds = lock_holds r b name also a told took log w sep d.holds;
-    asked = rw (area_self also, ← held_told told, ← d.asked) (marked_new _ b.0 m.child.lock_asked new);
+    asked = rw (same_area_self also, ← held_told told, ← d.asked) (marked_new _ b.0 m.child.lock_asked new);
     left = left_on;
     fewer = λ c h. d.fewer c (fewer_lock name also a b told took (among (holding name) w) sep c h);
     unseen = d.unseen;

@@ -14,6 +14,7 @@ use Rattle.afr_choice.specs.Verdict.{good_copies, holders_of, is_holder}
 use Rattle.afr_choice.specs.VerdictLemmas.{member_holders}
 use Rattle.afr_choice.specs.declared.looked.Looked.{Looked}
 use Rattle.afr_discipline.specs.declared.register.Register.{Register}
+use Rattle.afr_discipline.proofs.FirstLemmas.{in_common}
 use Rattle.afr_lines.specs.Areas.{area_for}
 use Rattle.afr_lines.specs.Told.{told_by}
 use Rattle.afr_lines.specs.Work.{Work}
@@ -52,7 +53,6 @@ use Rattle.afr_law_client.proofs.Removal.Lines.{goes_look}
 use Rattle.afr_law_client.proofs.Removal.Lost.{lost_missed}
 use Rattle.afr_law_client.proofs.Removal.Notes.{counts_not, fewer_look, look_holds, look_leaves, others_look}
 use Rattle.afr_law_client.proofs.Removal.Refused.{answered_before, few_refuse, looks_refuse}
-use Rattle.afr_law_client.proofs.Removal.Small.{in_common}
 use Rattle.afr_law_client.proofs.Removal.Takers.{in_takers, takers_in, takers_suffice}
 
 -- ---- what the looks rule out

@@ -1,6 +1,7 @@
 -- A lock that was granted and is no longer held, though none was released, was lost: its brick has missed something.
 use Rattle.std.proofs.Common.{◌≡◌, ◌≢◌, ℕ, ◌==◌, ◌&&◌, ◌||◌, not, Bool, true, false, List, [], ◌∷◌, refl, sym, ◌∙◌, subst, if◌then◌else◌, ◌⊎◌, inl, inr}
 use Rattle.std.proofs.lemmas.Bool.Decides.{eqb_tells}
+use Rattle.std.proofs.Math.Bool.{and-false}
 use Rattle.afr_base.specs.Bricks.{added, member, removed, IsIn}
 use Rattle.afr_base.specs.SetLemmas.{member_added, member_removed}
 use Rattle.afr_base.specs.declared.ids.ActorId.{ActorId}
@@ -22,7 +23,7 @@ use Rattle.afr_client_transaction.proofs.Parts.{no_or}
 use Rattle.afr_law_client.specs.Fits.{missed_by}
 use Rattle.afr_law_client.specs.Removal.RemovalTelling.{releases}
 use Rattle.afr_law_client.proofs.Excused.{fault_misses, missed_grows, missed_now}
-use Rattle.afr_law_client.proofs.Removal.Small.{any_granted, no_and}
+use Rattle.afr_law_client.proofs.Removal.Small.{any_granted}
 
 -- one line more: the sets before it, and what it made of them
 module _ (b : ℕ) (got held : List ℕ) (missed : Bool) where
@@ -70,12 +71,12 @@ module _ (g : Gfid) (area : Area) (b : ℕ) (older : List Line) (w : Work) (befo
       go : (x : Bool) → Lost b got held (member (missed_by g ((line, older) ∷ w)) b) (if x && true then added c.0 got else got) (if x then added c.0 held else held)
       go true = joins b got held (member (missed_by g ((line, older) ∷ w)) b) c.0 (grown line)
       go false = grown line
-  by_lock a c other took as_told.NotConnected = subst (λ (x : Bool). Lost b got held (member (missed_by g ((line, older) ∷ w)) b) (if x then added c.0 got else got) (removed c.0 held)) (sym (no_and (same_area area other)))
+  by_lock a c other took as_told.NotConnected = subst (λ (x : Bool). Lost b got held (member (missed_by g ((line, older) ∷ w)) b) (if x then added c.0 got else got) (removed c.0 held)) (sym (and-false (same_area area other)))
       (leaves b got held (member (missed_by g ((line, older) ∷ w)) b) c.0 (misses a c (request.Lock WorkDomain other) took) (grown line))
     where
       line : Line
       line = Ask a c (request.Lock WorkDomain other) as_told.NotConnected took
-  by_lock a c other took told = subst (λ (x : Bool). Lost b got held (member (missed_by g ((Ask a c (request.Lock WorkDomain other) told took, older) ∷ w)) b) (if x then added c.0 got else got) held) (sym (no_and (same_area area other)))
+  by_lock a c other took told = subst (λ (x : Bool). Lost b got held (member (missed_by g ((Ask a c (request.Lock WorkDomain other) told took, older) ∷ w)) b) (if x then added c.0 got else got) held) (sym (and-false (same_area area other)))
       (grown (Ask a c (request.Lock WorkDomain other) told took))
 
   by_line : (line : Line) → releases line ≡ false → Lost b got held (member (missed_by g ((line, older) ∷ w)) b) (getting area line got) (holding area line held)
@@ -114,8 +115,8 @@ module _ (area : Area) where
       go : (x : Bool) → IsIn (if x then added brick.0 held else held) (if x && true then added brick.0 got else got)
       go true = held_joins got held k brick.0
       go false = k
-  held_lock other c as_told.NotConnected got held a brick took k = subst (λ (x : Bool). IsIn (removed brick.0 held) (if x then added brick.0 got else got)) (sym (no_and (same_area area other))) (held_leaves got held k brick.0)
-  held_lock other c told got held a brick took k = subst (λ (x : Bool). IsIn held (if x then added brick.0 got else got)) (sym (no_and (same_area area other))) k
+  held_lock other c as_told.NotConnected got held a brick took k = subst (λ (x : Bool). IsIn (removed brick.0 held) (if x then added brick.0 got else got)) (sym (and-false (same_area area other))) (held_leaves got held k brick.0)
+  held_lock other c told got held a brick took k = subst (λ (x : Bool). IsIn held (if x then added brick.0 got else got)) (sym (and-false (same_area area other))) k
 
   held_line : (line : Line) (granted still : List ℕ) → IsIn still granted → IsIn (holding area line still) (getting area line granted)
   held_line (Ask a b (request.Lock WorkDomain other) told took) granted still k = held_lock other b.0 told granted still a b took k

@@ -17,6 +17,7 @@ use Rattle.afr_lines.specs.declared.line.Line.TheVariants.{Ask}
 use Rattle.afr_lines.specs.declared.request.Area.{Area}
 use Rattle.afr_lines.specs.declared.request.Request.TheVariants as request
 use Rattle.afr_model_moves.specs.Register.{is_on}
+use Rattle.afr_model_moves.proofs.AreaLemmas.{same_area_self}
 use Rattle.afr_object.specs.Tables.{object_of}
 use Rattle.afr_object.specs.declared.change.Change.{Change}
 use Rattle.afr_lines.specs.declared.lock.Domain.TheVariants.{Work as WorkDomain}
@@ -24,7 +25,7 @@ use Rattle.afr_model.specs.Showing.{among}
 use Rattle.afr_model.specs.Standing.{holding}
 use Rattle.afr_client_transaction.proofs.Requests.{after_by, after_outside, locked_w}
 use Rattle.afr_law_client.proofs.Leaves.{Leaves, LeavesAll}
-use Rattle.afr_law_client.proofs.Small.{area_self, number_named}
+use Rattle.afr_law_client.proofs.Small.{number_named}
 use Rattle.afr_law_client.specs.Removal.RemovalTelling.{AreHeld}
 
 module _ (r : Register) (b : BrickId) where
@@ -50,7 +51,7 @@ module _ (r : Register) (b : BrickId) where
   -- and the child's
   lock_child : (child : Area) (a : ActorId) (took : Bool) (s : List ℕ) → ((c : ℕ) → member r.second_held c ≡ member s c) → (told : Told) (c : ℕ)
       → member (locked_w true false r child b.0 told).second_held c ≡ member (holding child (Ask a b (request.Lock WorkDomain child) told took) s) c
-  lock_child child a took s h as_told.Granted c = rw (area_self child) (same_added r.second_held s h c)
+  lock_child child a took s h as_told.Granted c = rw (same_area_self child) (same_added r.second_held s h c)
   lock_child child a took s h as_told.NotConnected c = same_removed r.second_held s h c
   lock_child child a took s h told c = h c
 

@@ -1,6 +1,5 @@
 -- What refuses an rmdir that found a directory, and what it is answered.
-use Rattle.std.proofs.Common.{◌≡◌, ℕ, ◌-◌, not, nat_lt, Bool, true, false, List, Option, Some, None, length, refl, sym, ap, ◌∙◌, subst, arith, if◌then◌else◌, inl, inr, ◌⊎◌}
-use Rattle.std.proofs.lemmas.Bool.Decides.{nat_tests}
+use Rattle.std.proofs.Common.{◌≡◌, ℕ, ◌-◌, not, Bool, true, false, List, Option, Some, None, length, refl, sym, ap, ◌∙◌, subst, arith, if◌then◌else◌, inl, inr, ◌⊎◌}
 use Rattle.afr_base.specs.Bricks.{member, is_nothing, IsIn}
 use Rattle.afr_base.specs.Majority.{is_majority}
 use Rattle.afr_base.specs.SetLemmas.{majority_grows}
@@ -8,6 +7,7 @@ use Rattle.afr_base.specs.declared.ids.Gfid.{Gfid}
 use Rattle.afr_base.specs.declared.ids.Kind.{Kind}
 use Rattle.afr_base.specs.declared.ids.Kind.TheVariants.{Names}
 use Rattle.afr_base.specs.declared.ids.NameId.{NameId}
+use Rattle.afr_base.proofs.TestLemmas.{not_below_itself, one_value}
 use Rattle.afr_choice.specs.Verdict.{good_copies}
 use Rattle.afr_discipline.specs.declared.register.Register.{Register}
 use Rattle.afr_lines.specs.Areas.{area_for}
@@ -36,15 +36,10 @@ use Rattle.afr_client_entry.specs.declared.removing.child.Child.{Child}
 use Rattle.afr_client_entry.specs.declared.removing.stage.RemovalEnding.TheVariants.{Counted}
 use Rattle.afr_client_entry.proofs.Removals.Facts.{of_names}
 use Rattle.afr_client_transaction.proofs.Parts.{both}
-use Rattle.afr_law_client.proofs.Small.{area_is, no_change, object_named, self}
+use Rattle.afr_law_client.proofs.Small.{no_change, object_named, self}
 use Rattle.afr_law_client.proofs.Views.{suffices_grows}
 use Rattle.afr_law_client.specs.Removal.RemovalTelling.{RemovalGoes, Tries, dir_at, takers_by}
-
-not_less : (n : ℕ) → nat_lt n n ≡ false
-not_less n = grind (arith, nat_tests)
-
-just : {A : Type 0} → (x y : A) → Some x ≡ Some y → x ≡ y
-just x y e = cc e
+use Rattle.afr_model_moves.proofs.AreaLemmas.{same_area_is}
 
 abbrev object_at : Path → Entry
 object_at (At read object) = object
@@ -89,7 +84,7 @@ module _ (p : Plan) (path : List NameId) (change : Change) (r : Register) (c : C
   refusal_is = ap (λ (x : Path). or_else (read_refused w) (by_path p cmd x w)) k.led.place ∙ ap (λ (x : Option Reply). or_else (read_refused w) x) there
     where
       at_directory : by_path p cmd (At (length path - 1) dir) w ≡ or_else (by_area p.shape Names (area_on g cmd) w) (by_name p cmd dir (path_by p w) w)
-      at_directory = rw (not_less (length path - 1)) refl
+      at_directory = rw (not_below_itself (length path - 1)) refl
 
       there : by_path p cmd (At (length path - 1) dir) w ≡ by_child p cmd dir child w
       there =
@@ -100,7 +95,7 @@ module _ (p : Plan) (path : List NameId) (change : Change) (r : Register) (c : C
           ∙ at_child
         where
           at_child : by_name p cmd dir (At (length path) child) w ≡ by_child p cmd dir child w
-          at_child = rw (not_less (length path)) refl
+          at_child = rw (not_below_itself (length path)) refl
 
   refused_by_child : has refuses_read w ≡ false → refusal p cmd w ≡ by_child p cmd dir child w
   refused_by_child none = refusal_is ∙ rw none refl
@@ -132,7 +127,7 @@ module _ (p : Plan) (path : List NameId) (change : Change) (r : Register) (c : C
   -- ---- nothing was skipped
   locked_is : (area : Area) → has (locks_area area) w ≡ true → (f : Bool) → same_area area (area_for change) ≡ f → (f ≡ false → has (locks_area area) w ≡ false) → IsLocked p.shape.n w area
   locked_is area asked false e free = let none = free refl in absurd (cc (asked, none))
-  locked_is area asked true e free = subst (λ (area : Area). IsLocked p.shape.n w area) (sym (area_is area (area_for change) e)) (record {
+  locked_is area asked true e free = subst (λ (area : Area). IsLocked p.shape.n w area) (sym (same_area_is area (area_for change) e)) (record {
     all = k.locked.locked.all;
     looked = λ most. subst (λ (h : Gfid). IsIn (among (getting (area_for change)) w) (among (looking h) w)) (sym (object_named change)) k.locked.looked_all;
   })
@@ -143,7 +138,7 @@ module _ (p : Plan) (path : List NameId) (change : Change) (r : Register) (c : C
       (by_dir (subst (λ (x : Entry). area_on x.gfid cmd ≡ Some name) (sym same) named))
     where
       by_dir : area_on g cmd ≡ Some name → IsChildLocked p d.gfid c.gfid name w
-      by_dir f = subst (λ (x : Entry). IsChildLocked p x.gfid c.gfid name w) same (subst (λ (x : Area). IsChildLocked p g c.gfid x w) (just (area_for change) name (sym k.words.area ∙ f)) h)
+      by_dir f = subst (λ (x : Entry). IsChildLocked p x.gfid c.gfid name w) same (subst (λ (x : Area). IsChildLocked p g c.gfid x w) (one_value (area_for change) name (sym k.words.area ∙ f)) h)
 
   pub skips : IsChildLocked p g c.gfid (area_for change) w → ((changed : Change) → change_by w ≡ Some changed → WentThroughPhases p cmd changed w) → SkipsNothing p cmd w
   skips h carried = record {
@@ -223,7 +218,7 @@ module _ (p : Plan) (path : List NameId) (change : Change) (r : Register) (c : C
         go false e = let done = undisturbed e in absurd (cc (done, f))
 
     carried : (changed : Change) → change_by w ≡ Some changed → WentThroughPhases p cmd changed w
-    carried changed e = subst (λ (x : Change). WentThroughPhases p cmd x w) (just change changed (sym t.begun.is_change ∙ e)) (record {
+    carried changed e = subst (λ (x : Change). WentThroughPhases p cmd x w) (one_value change changed (sym t.begun.is_change ∙ e)) (record {
       prepared_all = λ b m. pre_all b (t.judged.take b (subst (λ (x : List ℕ). member x b ≡ true) takers_are m));
       applied_all = rw (of_names change removes) apply_all;
       posted_all = rw (of_names change removes) post_all;

@@ -8,6 +8,7 @@ use Rattle.afr_base.specs.declared.ids.Shape.{Shape}
 use Rattle.afr_choice.specs.Verdict.{holders_of}
 use Rattle.afr_choice.specs.declared.looked.Looked.{Looked}
 use Rattle.afr_discipline.specs.declared.register.Register.{Register}
+use Rattle.afr_discipline.proofs.FirstLemmas.{in_common}
 use Rattle.afr_lines.specs.Areas.{area_for}
 use Rattle.afr_lines.specs.Work.{Work}
 use Rattle.afr_lines.specs.declared.request.Area.TheVariants.{Name}
@@ -22,7 +23,7 @@ use Rattle.afr_client_entry.specs.Removals.Sound.{IsBase}
 use Rattle.afr_client_transaction.specs.Progress.{enough}
 use Rattle.afr_law_client.proofs.Views.{same_enough}
 use Rattle.afr_law_client.specs.Removal.RemovalTelling.{AreHeld, RemovalGoes, held_in, takers_by}
-use Rattle.afr_law_client.proofs.Removal.Small.{both_are, in_common, suffices_same}
+use Rattle.afr_law_client.proofs.Removal.Small.{both_are, suffices_same}
 
 module _ (p : Plan) (path : List NameId) (change : Change) (r : Register) (child : Gfid) (w : Work) (base : IsBase change r) (k : RemovalGoes p path change r child w) where
   abbrev g : Gfid

@@ -1,6 +1,6 @@
 -- An unlock leaves the answer of a removal as it was.
-use Rattle.std.proofs.Common.{◌≡◌, ℕ, ◌-◌, ◌||◌, nat_lt, arith, Bool, true, false, List, ◌∷◌, Option, Some, None, length, refl, sym, ap, ◌∙◌, subst, if◌then◌else◌, ◌⊎◌}
-use Rattle.std.proofs.lemmas.Bool.Decides.{nat_tests}
+use Rattle.std.proofs.Common.{◌≡◌, ℕ, ◌-◌, ◌||◌, arith, Bool, true, false, List, ◌∷◌, Option, Some, None, length, refl, sym, ap, ◌∙◌, subst, if◌then◌else◌, ◌⊎◌}
+use Rattle.std.proofs.Math.Bool.{and-false}
 use Rattle.afr_base.specs.Bricks.{is_nothing, member}
 use Rattle.afr_base.specs.Majority.{is_majority}
 use Rattle.afr_base.specs.declared.ids.ActorId.{ActorId}
@@ -8,6 +8,7 @@ use Rattle.afr_base.specs.declared.ids.BrickId.{BrickId}
 use Rattle.afr_base.specs.declared.ids.Gfid.{Gfid}
 use Rattle.afr_base.specs.declared.ids.Kind.TheVariants.{Names}
 use Rattle.afr_base.specs.declared.ids.NameId.{NameId}
+use Rattle.afr_base.proofs.TestLemmas.{not_below_itself}
 use Rattle.afr_discipline.specs.declared.register.Register.{Register}
 use Rattle.afr_lines.specs.Told.{told_by}
 use Rattle.afr_lines.specs.Work.{Work}
@@ -40,10 +41,6 @@ use Rattle.afr_law_client.proofs.Leaves.{LeavesAll, unlock_leaves}
 use Rattle.afr_law_client.specs.Removal.RemovalTelling.{HasLed, OnlyUnlocksLeft, RemovalTells, dir_at}
 use Rattle.afr_law_client.proofs.Removal.Lines.{led_ask}
 use Rattle.afr_law_client.proofs.Removal.Refused.{first_of}
-use Rattle.afr_law_client.proofs.Removal.Small.{no_and}
-
-not_less : (n : ℕ) → nat_lt n n ≡ false
-not_less n = grind (arith, nat_tests)
 
 -- what refuses an rmdir by its path
 at_led : (p : Plan) (path : List NameId) (g child : Gfid) (w : Work) → HasLed p path g child w
@@ -57,10 +54,10 @@ at_led p path g child w l =
   where
     at_directory : by_path p (command.Rmdir path) (At (length path - 1) (dir_at g)) w
         ≡ or_else (by_area p.shape Names (area_on g (command.Rmdir path)) w) (by_name p (command.Rmdir path) (dir_at g) (path_by p w) w)
-    at_directory = rw (not_less (length path - 1)) refl
+    at_directory = rw (not_below_itself (length path - 1)) refl
 
     at_child : by_name p (command.Rmdir path) (dir_at g) (At (length path) (dir_at child)) w ≡ by_child p (command.Rmdir path) (dir_at g) (dir_at child) w
-    at_child = rw (not_less (length path)) refl
+    at_child = rw (not_below_itself (length path)) refl
 
 module _ (p : Plan) (path : List NameId) (g child : Gfid) (a : ActorId) (b : BrickId) (area : Area) (told : Told) (took : Bool) (log : List Line) (w : Work) (l : HasLed p path g child w) where
   abbrev cmd : Command
@@ -101,7 +98,7 @@ module _ (p : Plan) (path : List NameId) (g child : Gfid) (a : ActorId) (b : Bri
       ∙ sym (at_led p path g child w l)
 
   faulted_same : is_faulted more ≡ is_faulted w
-  faulted_same = ap (λ (x : Bool). x || is_faulted w) (no_and (has begins_attempt w))
+  faulted_same = ap (λ (x : Bool). x || is_faulted w) (and-false (has begins_attempt w))
 
   takers_same : (h : Gfid) → takers cmd h (path_by p w) more ≡ takers cmd h (path_by p w) w
   takers_same h = ap (λ (x : Path). takers cmd h x more) l.leads ∙ both_same (area_on h cmd) h child ∙ sym (ap (λ (x : Path). takers cmd h x w) l.leads)

@@ -1,6 +1,7 @@
 -- Where a line of a rename's work belongs, and what the cut leaves of the path and of what is among the lines.
 use Rattle.std.proofs.Common.{◌≡◌, ℕ, ◌+◌, ◌||◌, ◌&&◌, nat_le, nat_lt, Bool, true, false, List, [], ◌∷◌, length, refl, sym, ◌∙◌, subst, arith, if◌then◌else◌}
 use Rattle.std.proofs.lemmas.Bool.Decides.{nat_tests}
+use Rattle.std.proofs.lemmas.Bool.{or_parts}
 use Rattle.afr_base.specs.declared.ids.NameId.{NameId}
 use Rattle.afr_lines.specs.Work.{Work}
 use Rattle.afr_lines.specs.declared.line.Line.{Line}
@@ -11,7 +12,7 @@ use Rattle.afr_model.specs.Parts.{Walks, Makes, Removes, after_names, is_again, 
 use Rattle.afr_model.specs.Showing.{Path, has, path_after, path_by}
 use Rattle.afr_model.specs.Standing.{asks_name, locks_any}
 use Rattle.afr_model.proofs.Cut.Cut.{names_whole, still_first}
-use Rattle.afr_law_client.proofs.Rename.MakingParts.{has_append, or_left, or_none}
+use Rattle.afr_law_client.proofs.Rename.MakingParts.{has_append, or_left}
 
 -- ---- lines of no second transaction
 -- as long as there is none, a line that asks for no lock doesn't begin it
@@ -26,7 +27,7 @@ not_again line (x ∷ w) e f = go (is_again x.0 w) e
 -- a work without locks has none
 pub none_again : (w : Work) → has locks_any w ≡ false → second_part w ≡ []
 none_again [] h = refl
-none_again (x ∷ w) h = let both = or_none (locks_any x.0) (has locks_any w) h in still_first x w (not_again x.0 w (none_again w both.1) both.0)
+none_again (x ∷ w) h = let both = or_parts (locks_any x.0) (has locks_any w) h in still_first x w (not_again x.0 w (none_again w both.1) both.0)
 
 -- ---- what the cut leaves
 -- a line that asks no name leaves the path

@@ -1,13 +1,13 @@
 -- What was looked at before a part of a rename's work doesn't count in it.
-use Rattle.std.proofs.Common.{◌≡◌, ℕ, ◌-◌, ◌<◌, ◌≤◌, ◌==◌, ◌||◌, nat_lt, Bool, true, false, List, [], ◌∷◌, ◌++◌, length, refl, sym, ap, ◌∙◌, arith, subst, if◌then◌else◌}
+use Rattle.std.proofs.Common.{◌≡◌, ℕ, ◌-◌, ◌<◌, ◌≤◌, ◌==◌, ◌||◌, nat_lt, Bool, true, false, List, [], ◌∷◌, ◌++◌, length, refl, sym, ap, ◌∙◌, arith, subst, if◌then◌else◌, inl, inr}
 use Rattle.std.proofs.lemmas.Bool.Decides.{eqb_tells, nat_tests}
-use Rattle.std.proofs.Common.{inl, inr}
 use Rattle.std.proofs.lemmas.List.{append-nil}
 use Rattle.afr_base.specs.Bricks.{added, and_right, member}
 use Rattle.afr_base.specs.Majority.{is_majority}
 use Rattle.afr_base.specs.SetLemmas.{majority_some, member_added}
 use Rattle.afr_base.specs.declared.ids.Gfid.{Gfid}
 use Rattle.afr_base.specs.declared.ids.NameId.{NameId}
+use Rattle.afr_base.proofs.TestLemmas.{or_second}
 use Rattle.afr_choice.specs.Looks.{no_looks, view_at}
 use Rattle.afr_choice.specs.declared.looked.Looked.{Looked}
 use Rattle.afr_lines.specs.Work.{Work}
@@ -51,10 +51,6 @@ any_lock g line e = absurd (cc e)
 abbrev SameAt : ℕ → Looked → Looked → Type 0
 SameAt b x y = (member x.reached b ≡ member y.reached b) × (view_at b x ≡ view_at b y)
 
-rest_of : (x y : Bool) → x ≡ false → (x || y) ≡ true → y ≡ true
-rest_of true y e h = absurd (cc e)
-rest_of false y e h = h
-
 -- a brick that was looked at after both shows the same
 same_line : (n : ℕ) (g : Gfid) (line : Line) (x y : Looked) (asked : List ℕ) (b : ℕ) → reads n line ≡ true → b < 5 → length x.views ≡ 5 → length y.views ≡ 5
     → (member asked b ≡ true → SameAt b x y) → member (looking g line asked) b ≡ true → SameAt b (looked_after g line x) (looked_after g line y)
@@ -65,7 +61,7 @@ same_line n g (Ask a c (Look h) told took) x y asked b free low fx fy before now
         let apart : c.0 ≡ b → ⊥ = λ f. (let same : (c.0 == b) ≡ true = grind (arith, nat_tests, f) in cc (same, e)) in
         let mine = same_there c.0 b told x apart in
         let theirs = same_there c.0 b told y apart in
-        let was = before (rest_of (c.0 == b) (member asked b) e (sym (member_added c.0 asked b) ∙ m)) in
+        let was = before (or_second (c.0 == b) (member asked b) e (sym (member_added c.0 asked b) ∙ m)) in
         (mine.0 ∙ was.0 ∙ sym theirs.0, mine.1 ∙ was.1 ∙ sym theirs.1)
 
     noted : member (added c.0 asked) b ≡ true → SameAt b (noted_look c.0 told x) (noted_look c.0 told y)

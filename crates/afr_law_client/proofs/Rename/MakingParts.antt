@@ -1,6 +1,8 @@
 -- The lines of a work by its parts: what each part shows of the whole, and the whole of each part.
 use Rattle.std.proofs.Common.{◌≡◌, ℕ, ◌+◌, ◌-◌, ◌||◌, ◌&&◌, nat_le, Bool, true, false, List, [], ◌∷◌, ◌++◌, Option, Some, None, refl, sym, ap, ◌∙◌, arith, if◌then◌else◌}
 use Rattle.std.proofs.lemmas.Bool.Decides.{nat_tests}
+use Rattle.std.proofs.lemmas.Bool.{or_right, and_from, and_parts}
+use Rattle.std.proofs.Math.Bool.{and-false, or-false}
 use Rattle.afr_lines.specs.Log.{change_of}
 use Rattle.afr_lines.specs.Work.{Work}
 use Rattle.afr_lines.specs.declared.line.Line.{Line}
@@ -14,14 +16,6 @@ pub or_left : (x y : Bool) → x ≡ true → (x || y) ≡ true
 or_left true y e = refl
 or_left false y e = absurd (cc e)
 
-pub or_right : (x y : Bool) → y ≡ true → (x || y) ≡ true
-or_right true y e = refl
-or_right false y e = e
-
-pub or_none : (x y : Bool) → (x || y) ≡ false → (x ≡ false) × (y ≡ false)
-or_none true y e = absurd (cc e)
-or_none false y e = (refl, e)
-
 -- some line of one part or of the other passes
 pub has_append : (test : Line → Bool) (s u : Work) → has test (s ++ u) ≡ (has test s || has test u)
 has_append test [] u = refl
@@ -32,11 +26,7 @@ has_append test (x ∷ s) u = ap (λ (y : Bool). test x.0 || y) (has_append test
     go false = refl
 
 pub has_front : (test : Line → Bool) (s u : Work) → has test u ≡ false → has test (s ++ u) ≡ has test s
-has_front test s u e = has_append test s u ∙ ap (λ (y : Bool). has test s || y) e ∙ go (has test s)
-  where
-    go : (x : Bool) → (x || false) ≡ x
-    go true = refl
-    go false = refl
+has_front test s u e = has_append test s u ∙ ap (λ (y : Bool). has test s || y) e ∙ or-false (has test s)
 
 -- ---- tails
 -- what goes over to a work without its last line goes over to what it was at an earlier name
@@ -94,9 +84,6 @@ changed_front (x ∷ s) u c e = go (λ f. changed_front s u c f) (change_of x.0)
     go rest (Some d) f = f
 
 -- ---- faults
-and_both : (a b : Bool) → (a && b) ≡ true → (a ≡ true) × (b ≡ true)
-and_both true b e = (refl, e)
-and_both false b e = absurd (cc e)
 
 or_either : (P : Type 0) (a b : Bool) → (a || b) ≡ true → (a ≡ true → P) → (b ≡ true → P) → P
 or_either P true b e f g = f refl
@@ -107,54 +94,41 @@ pub fault_in : (s u : Work) → has begins_attempt u ≡ false → is_faulted u 
 fault_in [] u none calm e = absurd (cc (calm, e))
 fault_in (x ∷ s) u none calm e =
     or_either (has tells_fault (x ∷ s) ≡ true) (has begins_attempt (s ++ u) && tells_fault x.0) (is_faulted (s ++ u)) e
-    (λ h. or_left (tells_fault x.0) (has tells_fault s) (and_both (has begins_attempt (s ++ u)) (tells_fault x.0) h).1)
+    (λ h. or_left (tells_fault x.0) (has tells_fault s) (and_parts (has begins_attempt (s ++ u)) (tells_fault x.0) h).1)
     (λ h. or_right (tells_fault x.0) (has tells_fault s) (fault_in s u none calm h))
-
--- lines before a part leave its faults
-both_true : (a b : Bool) → a ≡ true → b ≡ true → (a && b) ≡ true
-both_true true b e f = f
-both_true false b e f = absurd (cc e)
 
 pub fault_more : (s t : Work) → is_faulted s ≡ true → is_faulted (s ++ t) ≡ true
 fault_more [] t e = absurd (cc e)
 fault_more (x ∷ s) t e =
     or_either (is_faulted ((x ∷ s) ++ t) ≡ true) (has begins_attempt s && tells_fault x.0) (is_faulted s) e
-    (λ h. now (and_both (has begins_attempt s) (tells_fault x.0) h))
+    (λ h. now (and_parts (has begins_attempt s) (tells_fault x.0) h))
     (λ h. or_right (has begins_attempt (s ++ t) && tells_fault x.0) (is_faulted (s ++ t)) (fault_more s t h))
   where
     now : (has begins_attempt s ≡ true) × (tells_fault x.0 ≡ true) → is_faulted ((x ∷ s) ++ t) ≡ true
     now h =
         or_left (has begins_attempt (s ++ t) && tells_fault x.0) (is_faulted (s ++ t))
-        (both_true (has begins_attempt (s ++ t)) (tells_fault x.0) (has_append begins_attempt s t ∙ or_left (has begins_attempt s) (has begins_attempt t) h.0) h.1)
+        (and_from (has begins_attempt (s ++ t)) (tells_fault x.0) (has_append begins_attempt s t ∙ or_left (has begins_attempt s) (has begins_attempt t) h.0) h.1)
 
 -- where the lines before it have neither an attempt nor a fault, its faults are its own
 pub fault_own : (s u : Work) → has begins_attempt u ≡ false → is_faulted u ≡ false → is_faulted (s ++ u) ≡ true → is_faulted s ≡ true
 fault_own [] u none calm e = absurd (cc (calm, e))
 fault_own (x ∷ s) u none calm e =
     or_either (is_faulted (x ∷ s) ≡ true) (has begins_attempt (s ++ u) && tells_fault x.0) (is_faulted (s ++ u)) e
-    (λ h. or_left (has begins_attempt s && tells_fault x.0) (is_faulted s) (now (and_both (has begins_attempt (s ++ u)) (tells_fault x.0) h)))
+    (λ h. or_left (has begins_attempt s && tells_fault x.0) (is_faulted s) (now (and_parts (has begins_attempt (s ++ u)) (tells_fault x.0) h)))
     (λ h. or_right (has begins_attempt s && tells_fault x.0) (is_faulted s) (fault_own s u none calm h))
   where
     now : (has begins_attempt (s ++ u) ≡ true) × (tells_fault x.0 ≡ true) → (has begins_attempt s && tells_fault x.0) ≡ true
-    now h = both_true (has begins_attempt s) (tells_fault x.0) (sym (has_front begins_attempt s u none) ∙ h.0) h.1
+    now h = and_from (has begins_attempt s) (tells_fault x.0) (sym (has_front begins_attempt s u none) ∙ h.0) h.1
 
 -- ---- the second transaction
 -- before it, a line begins it only as a lock after an unlock
 pub again_by : (line : Line) (w : Work) → second_part w ≡ [] → is_again line w ≡ (locks_any line && has unlocks_any w)
-again_by line [] e = sym (never (locks_any line))
-  where
-    never : (x : Bool) → (x && false) ≡ false
-    never true = refl
-    never false = refl
+again_by line [] e = sym (and-false (locks_any line))
 again_by line (x ∷ w) e = go (is_again x.0 w) e
   where
     go : (again : Bool) → (if again then x ∷ second_part w else []) ≡ [] → ((locks_any line && has unlocks_any (x ∷ w)) || again) ≡ (locks_any line && has unlocks_any (x ∷ w))
     go true f = absurd (cc f)
-    go false f = none (locks_any line && has unlocks_any (x ∷ w))
-      where
-        none : (y : Bool) → (y || false) ≡ y
-        none true = refl
-        none false = refl
+    go false f = or-false (locks_any line && has unlocks_any (x ∷ w))
 
 -- once it has begun, each line is of it
 pub again_stays : (line : Line) (x : Line × List Line) (w : Work) → is_again x.0 w ≡ true → is_again line (x ∷ w) ≡ true

@@ -19,6 +19,7 @@ use Rattle.afr_plan.specs.declared.plan.Plan.{Plan}
 use Rattle.afr_model.specs.Parts.{the_make}
 use Rattle.afr_client_transaction.specs.Between.{noted_read}
 use Rattle.afr_client_transaction.specs.Progress.{TransactionProgress, is_beginning, next_at as next_change}
+use Rattle.afr_client_transaction.proofs.ReadLemmas.{begins_at}
 use Rattle.afr_client_entry.specs.Entry.{found_by, progress_begun, settled}
 use Rattle.afr_client_entry.specs.declared.job.EntryJob.{EntryJob}
 use Rattle.afr_client_entry.specs.declared.job.EntryJob.TheVariants.{Create}
@@ -27,11 +28,10 @@ use Rattle.afr_client_entry.specs.declared.stage.Found.{Found}
 use Rattle.afr_client_entry.specs.declared.stage.Found.TheVariants.{Unread, Fits, Refused}
 use Rattle.afr_law_client.proofs.Read.ReadsMore.{asks_same}
 use Rattle.afr_law_client.specs.Entry.EntryTelling.{CanHearUnder, CanName, ChangesName}
-use Rattle.afr_law_client.proofs.Entry.Changing.{begins_at, name_goes, name_read}
-use Rattle.afr_law_client.proofs.Entry.Heard.{hears_name}
+use Rattle.afr_law_client.proofs.Entry.Changing.{name_goes, name_read}
+use Rattle.afr_law_client.proofs.Entry.Heard.{hears_name, hears_told}
 use Rattle.afr_law_client.proofs.Entry.Names.{name_told, quiet}
 use Rattle.afr_law_client.proofs.Entry.Under.{name_more, place_more}
-use Rattle.afr_law_client.proofs.Entry.Heard.{hears_told}
 use Rattle.afr_client_entry.specs.Renames.Against.{against_new}
 use Rattle.afr_client_entry.specs.Renames.Paths.{reads_new}
 use Rattle.afr_client_entry.specs.Renames.Rename.{IsMaking}

@@ -34,6 +34,7 @@ use Rattle.afr_client_transaction.specs.Progress.{TransactionProgress, is_beginn
 use Rattle.afr_client_transaction.specs.Sound.{Sound}
 use Rattle.afr_client_transaction.specs.declared.stage.Stage.{Stage}
 use Rattle.afr_client_transaction.specs.declared.stage.Stage.TheVariants.{Locking, Looking, Beginning, Preparing, Applying, Posting, Closing}
+use Rattle.afr_client_transaction.proofs.ReadLemmas.{begins_at}
 use Rattle.afr_law_client.proofs.ReadsLemmas.{reads_kept}
 use Rattle.afr_law_client.proofs.Small.{same_gfid}
 use Rattle.afr_client_entry.specs.Entry.{found_by, progress_begun, settled}
@@ -46,12 +47,10 @@ use Rattle.afr_law_client.proofs.Read.ReadsMore.{asks_same}
 use Rattle.afr_law_client.specs.Write.WriteTelling.{CanTell}
 use Rattle.afr_law_client.proofs.Write.Goes.{asked_stage}
 use Rattle.afr_law_client.specs.Entry.EntryTelling.{CanHearUnder, CanName, TransactionGoes, WasGiven}
-use Rattle.afr_law_client.proofs.Entry.Changing.{begins_at}
-use Rattle.afr_law_client.proofs.Entry.Heard.{hears_name}
+use Rattle.afr_law_client.proofs.Entry.Heard.{hears_name, hears_told}
 use Rattle.afr_law_client.proofs.Entry.Names as name_told
 use Rattle.afr_law_client.proofs.Entry.Names.{NameTold, Quiet, quiet, upto_stays}
 use Rattle.afr_law_client.proofs.Entry.Words.{suits_view}
-use Rattle.afr_law_client.proofs.Entry.Heard.{hears_told}
 use Rattle.afr_law_client.proofs.Entry.Under.{given_more}
 use Rattle.afr_client_entry.specs.Renames.Against.{against_old, is_same}
 use Rattle.afr_client_entry.specs.Renames.Paths.{reads_old}

@@ -1,9 +1,11 @@
 -- The walk to the directory of the old name: what its lines show of it, once the whole path was walked.
 use Rattle.std.proofs.Common.{◌≡◌, ◌⊎◌, ℕ, ◌+◌, ◌<◌, ◌≤◌, ◌||◌, ◌==◌, nat_le, Bool, true, false, List, [], ◌∷◌, Option, Some, None, refl, sym, ap, ◌∙◌, subst, arith, if◌then◌else◌, inl, inr}
 use Rattle.std.proofs.lemmas.Bool.Decides.{nat_tests, eqb_tells}
+use Rattle.std.proofs.lemmas.Bool.{or_right, or_parts, or_from}
 use Rattle.afr_base.specs.Bricks.{added_if, member}
 use Rattle.afr_base.specs.SetLemmas.{member_added}
 use Rattle.afr_base.specs.declared.ids.Gfid.{Gfid}
+use Rattle.afr_base.proofs.TestLemmas.{or_more, or_second}
 use Rattle.afr_lines.specs.Work.{Work}
 use Rattle.afr_lines.specs.declared.answer.Told.{Told}
 use Rattle.afr_lines.specs.declared.answer.Told.TheVariants as as_told
@@ -23,7 +25,7 @@ use Rattle.afr_model.specs.Skipped.{IsLooked}
 use Rattle.afr_model.specs.Standing.{asks_name, kept_at, locks_any, path_upto}
 use Rattle.afr_model.specs.Tables.{entry_at, holds}
 use Rattle.afr_law_client.specs.Read.Lines.{LookedAll, OnlyReads}
-use Rattle.afr_law_client.proofs.Rename.MakingParts.{or_left, or_none, or_right}
+use Rattle.afr_law_client.proofs.Rename.MakingParts.{or_left}
 
 -- ---- how far it has led
 -- a path has read no more names than were asked
@@ -127,12 +129,8 @@ looking_keeps g line s b free m = m
 looking_more : (g : Gfid) (line : Line) (s u : List ℕ) (b : ℕ) → locks_any line ≡ false → (member s b ≡ true → member u b ≡ true) → member (looking g line s) b ≡ true → member (looking g line u) b ≡ true
 looking_more g (Ask a c (request.Look h) told took) s u b free more m = go (h.0 == g.0) m
   where
-    either : (x y z : Bool) → (y ≡ true → z ≡ true) → (x || y) ≡ true → (x || z) ≡ true
-    either true y z f e = refl
-    either false y z f e = f e
-
     go : (t : Bool) → member (if t then added_if true c.0 s else s) b ≡ true → member (if t then added_if true c.0 u else u) b ≡ true
-    go true m = member_added c.0 u b ∙ either (c.0 == b) (member s b) (member u b) more (sym (member_added c.0 s b) ∙ m)
+    go true m = member_added c.0 u b ∙ or_more (c.0 == b) (member s b) (member u b) more (sym (member_added c.0 s b) ∙ m)
     go false m = more m
 looking_more g (Ask a c (request.Lock WorkDomain area) told took) s u b free more m = absurd (cc free)
 looking_more g line s u b free more m = more m
@@ -141,7 +139,7 @@ looking_more g line s u b free more m = more m
 looking_since : (g : Gfid) (w : Work) (b : ℕ) → has locks_any w ≡ false → member (among (looking g) (since_name w)) b ≡ true → member (among (looking g) w) b ≡ true
 looking_since g [] b free m = m
 looking_since g (x ∷ w) b free m =
-    let both = or_none (locks_any x.0) (has locks_any w) free in
+    let both = or_parts (locks_any x.0) (has locks_any w) free in
     go (looking_more g x.0 (among (looking g) (since_name w)) (among (looking g) w) b both.0 (looking_since g w b both.1)) (asks_name x.0) m
   where
     none : member [] b ≡ true → ⊥
@@ -159,23 +157,19 @@ locks_some g line e = refl
 
 unlocked_since : (g : Gfid) (w : Work) → has locks_any w ≡ false → has (locks g) (since_name w) ≡ false
 unlocked_since g [] e = refl
-unlocked_since g (x ∷ w) e = let both = or_none (locks_any x.0) (has locks_any w) e in go both.0 (unlocked_since g w both.1) (asks_name x.0)
+unlocked_since g (x ∷ w) e = let both = or_parts (locks_any x.0) (has locks_any w) e in go both.0 (unlocked_since g w both.1) (asks_name x.0)
   where
-    none : (u v : Bool) → u ≡ false → v ≡ false → (u || v) ≡ false
-    none true v f g = f
-    none false v f g = g
-
     go : locks_any x.0 ≡ false → has (locks g) (since_name w) ≡ false → (t : Bool) → has (locks g) (if t then [] else x ∷ since_name w) ≡ false
     go now before true = refl
-    go now before false = none (locks g x.0) (has (locks g) (since_name w)) (locks_some g x.0 now) before
+    go now before false = or_from (locks g x.0) (has (locks g) (since_name w)) (locks_some g x.0 now) before
 
 -- an object that was looked at before the last name was looked at on every brick
 pub legs_look : (n : ℕ) (w : Work) → AreLegs n w → has locks_any w ≡ false → (g : Gfid) (b : ℕ) → b < n → has (looks_at g) w ≡ true → (has (looks_at g) (since_name w) ≡ true) ⊎ (member (among (looking g) w) b ≡ true)
 legs_look n [] legs free g b l e = absurd (cc e)
-legs_look n (x ∷ w) legs free g b l e = go (λ f. legs_look n w legs.1 (or_none (locks_any x.0) (has locks_any w) free).1 g b l f) (asks_name x.0) refl legs.0
+legs_look n (x ∷ w) legs free g b l e = go (λ f. legs_look n w legs.1 (or_parts (locks_any x.0) (has locks_any w) free).1 g b l f) (asks_name x.0) refl legs.0
   where
     both : (locks_any x.0 ≡ false) × (has locks_any w ≡ false)
-    both = or_none (locks_any x.0) (has locks_any w) free
+    both = or_parts (locks_any x.0) (has locks_any w) free
 
     keeps : member (among (looking g) w) b ≡ true → member (looking g x.0 (among (looking g) w)) b ≡ true
     keeps m = looking_keeps g x.0 (among (looking g) w) b both.0 m
@@ -183,10 +177,6 @@ legs_look n (x ∷ w) legs free g b l e = go (λ f. legs_look n w legs.1 (or_non
     named : (line : Line) → asks_name line ≡ true → looks_at g line ≡ false
     named (Ask a c (request.ReadName h name) told took) f = refl
     named line f = absurd (cc f)
-
-    later : (t u : Bool) → t ≡ false → (t || u) ≡ true → u ≡ true
-    later true u f h = absurd (cc f)
-    later false u f h = h
 
     before : IsLooked n (since_name w) → (has (looks_at g) (since_name w) ≡ true) ⊎ (member (among (looking g) w) b ≡ true) → (has (looks_at g) [] ≡ true) ⊎ (member (looking g x.0 (among (looking g) w)) b ≡ true)
     before leg (inl h) = inr (keeps (looking_since g w b both.1 (leg g h (unlocked_since g w both.1) b l)))
@@ -203,7 +193,7 @@ legs_look n (x ∷ w) legs free g b l e = go (λ f. legs_look n w legs.1 (or_non
 
     go : (has (looks_at g) w ≡ true → (has (looks_at g) (since_name w) ≡ true) ⊎ (member (among (looking g) w) b ≡ true)) → (t : Bool) → asks_name x.0 ≡ t → LegEnds t n w
         → (has (looks_at g) (if t then [] else x ∷ since_name w) ≡ true) ⊎ (member (looking g x.0 (among (looking g) w)) b ≡ true)
-    go rest true f leg = before leg (rest (later (looks_at g x.0) (has (looks_at g) w) (named x.0 f) e))
+    go rest true f leg = before leg (rest (or_second (looks_at g x.0) (has (looks_at g) w) (named x.0 f) e))
     go rest false f leg = now rest (looks_at g x.0) refl e
 
 -- so it is of the walk to the directory
@@ -242,7 +232,7 @@ unread_before p x w e = given_some (reading_by p w) x.0 x.1 p e
 
 -- nothing was refused before, where nothing was
 pub none_before : (test : Line → Bool) (x : Line × List Line) (w : Work) → has test (x ∷ w) ≡ false → has test w ≡ false
-none_before test x w e = (or_none (test x.0) (has test w) e).1
+none_before test x w e = (or_parts (test x.0) (has test w) e).1
 
 pub only_before : (n : ℕ) (x : Line × List Line) (w : Work) → OnlyReads n (x ∷ w) → OnlyReads n w
 only_before n x w e = e.1

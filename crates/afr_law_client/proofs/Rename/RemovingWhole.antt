@@ -1,5 +1,6 @@
 -- What the lines of the second transaction say of the whole work of a rename.
-use Rattle.std.proofs.Common.{◌≡◌, ℕ, ◌-◌, ◌||◌, ◌==◌, nat_le, Bool, true, false, List, [], ◌∷◌, ◌++◌, Option, Some, None, length, refl, sym, ap, ◌∙◌, subst, if◌then◌else◌}
+use Rattle.std.proofs.Common.{◌≡◌, ℕ, ◌-◌, ◌||◌, ◌==◌, nat_le, Bool, true, false, List, [], ◌∷◌, ◌++◌, Some, None, length, refl, sym, ap, ◌∙◌, subst, if◌then◌else◌}
+use Rattle.std.proofs.lemmas.Bool.{or_parts}
 use Rattle.afr_base.specs.Bricks.{added, is_nothing, member}
 use Rattle.afr_base.specs.Majority.{is_majority}
 use Rattle.afr_base.specs.SetLemmas.{member_added}
@@ -23,7 +24,7 @@ use Rattle.afr_model.specs.Blamed.{IsBlaming}
 use Rattle.afr_model.specs.Kept.{IsKept, KeepsName}
 use Rattle.afr_model.specs.Parts.{first_part, names_asked, second_part, the_make, the_removal, the_walk, upto_names}
 use Rattle.afr_model.specs.Showing.{among, begins_attempt, has, locks, posted, posting}
-use Rattle.afr_model.specs.Standing.{change_after, change_by}
+use Rattle.afr_model.specs.Standing.{change_by}
 use Rattle.afr_client_transaction.specs.Outcome.{reply_of}
 use Rattle.afr_client_transaction.specs.Progress.{TransactionProgress, asks, next_at as next_change, numbered}
 use Rattle.afr_client_transaction.specs.declared.stage.Stage.{Stage}
@@ -34,6 +35,7 @@ use Rattle.afr_law_client.proofs.Small.{self}
 use Rattle.afr_client_entry.specs.declared.stage.Found.{Found}
 use Rattle.afr_client_entry.specs.declared.stage.Found.TheVariants.{Fits}
 use Rattle.afr_model.proofs.Cut.Cut.{after_none, names_whole, parts_whole}
+use Rattle.afr_model.proofs.Cut.Anew.{unbegun_change}
 use Rattle.afr_law_client.proofs.Second.Folds.{blamed_whole}
 use Rattle.afr_law_client.proofs.Write.Goes.{begun_stage}
 use Rattle.afr_client_entry.specs.Renames.Paths.{making_of, reads_old}
@@ -43,7 +45,7 @@ use Rattle.afr_client_entry.specs.declared.renaming.paths.Paths.{Paths}
 use Rattle.afr_law_client.specs.Rename.RenameTelling.{Removes}
 use Rattle.afr_law_client.proofs.Rename.MakingBlames.{under_blames}
 use Rattle.afr_law_client.proofs.Rename.MakingLocks.{begins_own}
-use Rattle.afr_law_client.proofs.Rename.MakingParts.{among_front, changed_front, has_front, or_left, or_none, upto_behind}
+use Rattle.afr_law_client.proofs.Rename.MakingParts.{among_front, changed_front, has_front, or_left, upto_behind}
 use Rattle.afr_law_client.proofs.Rename.MakingWalked.{walk_untouched}
 use Rattle.afr_law_client.proofs.Rename.RemovingBegins.{prefix_untouched}
 use Rattle.afr_law_client.proofs.Rename.WalkEnds.{no_majority}
@@ -53,12 +55,6 @@ use Rattle.afr_law_client.proofs.Rename.WalkEnds.{no_majority}
 no_begin : (line : Line) → begins_attempt line ≡ false → change_of line ≡ None
 no_begin (Begin a change) e = absurd (cc e)
 no_begin line e = refl
-
-changed_behind : (s u : Work) → has begins_attempt s ≡ false → change_by (s ++ u) ≡ change_by u
-changed_behind [] u e = refl
-changed_behind (x ∷ s) u e =
-    let both = or_none (begins_attempt x.0) (has begins_attempt s) e in
-    ap (λ (o : Option Change). change_after o (change_by (s ++ u))) (no_begin x.0 both.0) ∙ changed_behind s u both.1
 
 -- nobody was asked for a post-op
 added_some : (b : ℕ) (s : List ℕ) → added b s ≡ [] → ⊥
@@ -75,7 +71,7 @@ no_post line s e f = (f, λ u. refl)
 posted_behind : (s u v : Work) → has begins_attempt s ≡ false → among posting (s ++ u) ≡ [] → among posted (s ++ v) ≡ among posted v
 posted_behind [] u v e f = refl
 posted_behind (x ∷ s) u v e f =
-    let both = or_none (begins_attempt x.0) (has begins_attempt s) e in
+    let both = or_parts (begins_attempt x.0) (has begins_attempt s) e in
     let none = no_post x.0 (among posting (s ++ u)) both.0 f in
     none.1 (among posted (s ++ v)) ∙ posted_behind s u v both.1 none.0
 
@@ -134,7 +130,7 @@ module _ (p : Plan) (x : Paths) (t : TransactionProgress) (found : Found) (lines
       ∙ posted_first
 
   pub changed_all : AreIdle removal → change_by lines ≡ Some (making_of x x.second.object.gfid)
-  changed_all idle = ap change_by (sym (parts_whole lines)) ∙ changed_behind second first (sym second_begins ∙ idle.unbegun) ∙ changed_first
+  changed_all idle = ap change_by (sym (parts_whole lines)) ∙ unbegun_change second first (sym second_begins ∙ idle.unbegun) ∙ changed_first
 
 -- ---- the old name is given up once the new one stands
 -- the change of a Begin line

@@ -1,11 +1,11 @@
 -- What a rename has ended with whose walks have stopped, or led to what can't be renamed.
 use Rattle.std.proofs.Common.{◌≡◌, ◌⊎◌, ℕ, ◌<◌, ◌==◌, nat_le, Bool, true, false, List, [], ◌∷◌, Option, Some, length, refl, sym, ap, ◌∙◌, subst, arith, if◌then◌else◌, inl, inr}
-use Rattle.std.proofs.lemmas.Bool.Decides.{nat_tests}
 use Rattle.std.proofs.lemmas.Option.{same_Some}
 use Rattle.afr_base.specs.Majority.{is_majority}
 use Rattle.afr_base.specs.SetLemmas.{majority_some}
 use Rattle.afr_base.specs.declared.ids.NameId.{NameId}
 use Rattle.afr_base.specs.declared.ids.What.TheVariants.{File}
+use Rattle.afr_base.proofs.TestLemmas.{same_number, other_number}
 use Rattle.afr_lines.specs.Work.{Work}
 use Rattle.afr_lines.specs.declared.reply.Reply.{Reply}
 use Rattle.afr_lines.specs.declared.reply.Reply.TheVariants as reply
@@ -31,12 +31,6 @@ use Rattle.afr_client_entry.specs.declared.renaming.paths.Paths.{Paths}
 use Rattle.afr_law_client.specs.Rename.RenameTelling.{OnFirst, to_of}
 use Rattle.afr_law_client.proofs.Rename.Cut.{has_after, none_again}
 use Rattle.afr_law_client.proofs.Rename.Walks.{is_looked}
-
-self : (n : ℕ) → (n == n) ≡ true
-self n = grind (arith, nat_tests)
-
-differ_test : (a b : ℕ) → a < b → (a == b) ≡ false
-differ_test a b h = grind (arith, nat_tests, h)
 
 -- nobody is no majority
 pub no_majority : (n : ℕ) → is_majority n [] ≡ true → ⊥
@@ -65,33 +59,33 @@ only_whole n k (x ∷ w) h g = go (nat_le k (names_asked w)) (λ a b. only_whole
 module _ (p : Plan) (from to : List NameId) (w : Work) where
   -- before its end the walk refuses the rename
   on_way_refusal : (path : Path) → IsOnWay (length from) path → refusal_at path p from to w ≡ refusal p (command.Stat from) (the_walk from w)
-  on_way_refusal (At read object) on = let other = differ_test read (length from) (on read object refl) in rw other refl
+  on_way_refusal (At read object) on = let other = other_number read (length from) (on read object refl) in rw other refl
   on_way_refusal NoName on = refl
   on_way_refusal Untold on = refl
 
   on_way_asks : (path : Path) → IsOnWay (length from) path → asks_at path from to ≡ command.Stat from
-  on_way_asks (At read object) on = let other = differ_test read (length from) (on read object refl) in rw other refl
+  on_way_asks (At read object) on = let other = other_number read (length from) (on read object refl) in rw other refl
   on_way_asks NoName on = refl
   on_way_asks Untold on = refl
 
   on_way_lines : (path : Path) → IsOnWay (length from) path → asked_lines path from w ≡ the_walk from w
-  on_way_lines (At read object) on = let other = differ_test read (length from) (on read object refl) in rw other refl
+  on_way_lines (At read object) on = let other = other_number read (length from) (on read object refl) in rw other refl
   on_way_lines NoName on = refl
   on_way_lines Untold on = refl
 
   -- at its end a directory does
   directory_refusal : (object : Entry) → is_dir object.what ≡ true → refusal_at (At (length from) object) p from to w ≡ Some reply.IsDir
-  directory_refusal object dir = rw (self (length from), dir) refl
+  directory_refusal object dir = rw (same_number (length from), dir) refl
 
   -- and for a file the second path
   pub file_refusal : (object : Entry) → is_dir object.what ≡ false → refusal_at (At (length from) object) p from to w ≡ refusal p (command.Create to) (the_make from w)
-  file_refusal object file = rw (self (length from), file) refl
+  file_refusal object file = rw (same_number (length from), file) refl
 
   pub file_asks : (object : Entry) → asks_at (At (length from) object) from to ≡ command.Create to
-  file_asks object = rw (self (length from)) refl
+  file_asks object = rw (same_number (length from)) refl
 
   pub file_lines : (object : Entry) → asked_lines (At (length from) object) from w ≡ the_make from w
-  file_lines object = rw (self (length from)) refl
+  file_lines object = rw (same_number (length from)) refl
 
 -- ---- a rename that has asked nothing but looks and names
 -- what refuses it is its reply

@@ -23,14 +23,14 @@ use Rattle.afr_client_entry.specs.Entry.{after_walk}
 use Rattle.afr_client_entry.specs.declared.job.EntryJob.TheVariants.{Create}
 use Rattle.afr_law_client.specs.Read.Lines.{CanAnswer, OnlyReads}
 use Rattle.afr_law_client.proofs.Read.ReadsMore.{asks_same}
-use Rattle.afr_law_client.proofs.Read.Walking.{path_kept, walk_tells_more}
+use Rattle.afr_law_client.proofs.Read.Walking.{walk_tells_more}
 use Rattle.afr_law_client.specs.Entry.EntryTelling as entry
 use Rattle.afr_law_client.specs.Entry.EntryTelling.{command_of as job_command}
 use Rattle.afr_law_client.proofs.Entry.Walks.{walks_more}
 use Rattle.afr_client_entry.specs.Renames.Paths.{IsPaths, first_walked, second_walked}
 use Rattle.afr_client_entry.specs.Renames.Rename.{after_first, after_second}
 use Rattle.afr_client_entry.specs.declared.renaming.paths.Paths.{Paths}
-use Rattle.afr_client_entry.proofs.Renames.RenameLemmas.{first_paths}
+use Rattle.afr_client_entry.proofs.Renames.RenameLemmas.{first_paths, walked_path}
 use Rattle.afr_law_client.specs.Rename.RenameTelling.{CanFind, IsLeg, OnFirst, RenameTells, WalksOn, WalksToFile, command_of, to_of}
 use Rattle.afr_law_client.proofs.Rename.MakingWalked.{first_more_on}
 use Rattle.afr_law_client.proofs.Rename.Walks.{finds_again, finds_walk, legs_more, not_all_asked, only_of, walks_again}
@@ -52,7 +52,7 @@ module _ (p : Plan) (c : Command) (x : Paths) (lines : Work) (a : ActorId) (chos
   more = (line, log) ∷ lines
 
   kept : (walked chosen heard at x.first).path ≡ x.first.path
-  kept = path_kept chosen heard at x.first
+  kept = walked_path chosen heard at x.first
 
   stands : CanFind p (next_in x.first).0.0 (next_in x.first).1 log heard → IsAmong (choices_of heard x.first) chosen → Stands p x.first.path (walked chosen heard at x.first) x.first.object.gfid more
   stands can among =
@@ -119,7 +119,7 @@ module _ (p : Plan) (c : Command) (x : Paths) (lines : Work) (a : ActorId) (chos
   make2 = (on_line, log) ∷ the_make x.first.path lines
 
   second_kept : w.path ≡ x.second.path
-  second_kept = path_kept chosen heard at2 x.second
+  second_kept = walked_path chosen heard at2 x.second
 
   grows : the_make x.first.path lines2 ≡ make2
   grows = make_grows x.first.path (on_line, log) lines k.on.walked.all k.on.first (walks_again p x lines k paths.second walks a (told_by heard) took)

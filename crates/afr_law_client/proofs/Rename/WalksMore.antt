@@ -26,7 +26,7 @@ use Rattle.afr_plan.specs.declared.command.Command.TheVariants as command
 use Rattle.afr_plan.specs.declared.plan.Plan.{Plan}
 use Rattle.afr_model.specs.Parts.{names_asked, the_make, the_walk, upto_names}
 use Rattle.afr_model.specs.Renamed.{AreLegs, since_name}
-use Rattle.afr_model.specs.Showing.{Path, At, NoName, Untold, path_by}
+use Rattle.afr_model.specs.Showing.{At, path_by}
 use Rattle.afr_model.specs.Tables.{entry_at, holds}
 use Rattle.afr_model.proofs.Cut.Cut.{upto_more}
 use Rattle.afr_client_walk.specs.Looks.{heard_look, left_to_look, no_look}
@@ -39,19 +39,14 @@ use Rattle.afr_client_walk.specs.declared.walk.WalkStep.{WalkStep}
 use Rattle.afr_client_walk.specs.declared.walk.WalkStep.TheVariants.{Looking, Naming, Arrived, Stopped}
 use Rattle.afr_law_client.specs.Read.Lines.{CanAnswer}
 use Rattle.afr_law_client.specs.Read.WalkTelling.{TellsAt, WalkTells}
-use Rattle.afr_law_client.proofs.Entry.Begins.{IsOnWay, read_in}
+use Rattle.afr_law_client.proofs.Entry.Begins.{IsOnWay}
 use Rattle.afr_law_client.proofs.Entry.Names.{Found, Fails, Lost, NameTold, name_told}
 use Rattle.afr_law_client.proofs.Entry.Words.{dir_is}
 use Rattle.afr_law_client.specs.Rename.RenameTelling.{IsLeg}
 use Rattle.afr_law_client.proofs.Rename.Cut.{path_upto_last}
+use Rattle.afr_law_client.proofs.Entry.Walks.{at_most, none_at}
 
 -- ---- where a path stands
-at_most : (k t : ℕ) (object : Entry) → t < k → (path : Path) → path ≡ At t object → IsOnWay k path
-at_most k t object l path e read o f = subst (λ (n : ℕ). n < k) (ap read_in (sym e ∙ f)) l
-
-none_at : (k : ℕ) (path : Path) → (path ≡ NoName) ⊎ (path ≡ Untold) → IsOnWay k path
-none_at k path (inl e) read object f = absurd (cc (e, f))
-none_at k path (inr e) read object f = absurd (cc (e, f))
 
 -- a name that leads on to what a walk stops at isn't the path's last
 stops_before : (read k : ℕ) (entry : Entry) (why : Stop) → read < k → step_at k (read + 1) entry ≡ Stopped why → read + 1 < k

@@ -1,8 +1,10 @@
 -- Who missed something, with other lines before a part, and so a post-op of the second part.
 use Rattle.std.proofs.Common.{◌≡◌, ℕ, ◌||◌, ◌==◌, Bool, true, false, List, [], ◌∷◌, ◌++◌, refl, sym, ◌∙◌, subst, if◌then◌else◌}
+use Rattle.std.proofs.lemmas.Bool.{or_right}
 use Rattle.afr_base.specs.Bricks.{added_if, below, member, minus}
 use Rattle.afr_base.specs.SetLemmas.{member_added}
 use Rattle.afr_base.specs.declared.ids.Gfid.{Gfid}
+use Rattle.afr_base.proofs.TestLemmas.{or_more}
 use Rattle.afr_choice.specs.declared.looked.Looked.{Looked}
 use Rattle.afr_lines.specs.Work.{Work}
 use Rattle.afr_lines.specs.declared.line.Line.{Line}
@@ -18,12 +20,8 @@ use Rattle.afr_law_client.specs.Second.Second.{BlamedWhole}
 missing_more : (g : Gfid) (line : Line) (s t : List ℕ) (c : ℕ) → (member s c ≡ true → member t c ≡ true) → member (missing g line s) c ≡ true → member (missing g line t) c ≡ true
 missing_more g (Ask a b request told took) s t c more h = by (misses g request told) h
   where
-    either : (x y z : Bool) → (y ≡ true → z ≡ true) → (x || y) ≡ true → (x || z) ≡ true
-    either true y z f e = refl
-    either false y z f e = f e
-
     by : (m : Bool) → member (added_if m b.0 s) c ≡ true → member (added_if m b.0 t) c ≡ true
-    by true e = member_added b.0 t c ∙ either (b.0 == c) (member s c) (member t c) more (sym (member_added b.0 s c) ∙ e)
+    by true e = member_added b.0 t c ∙ or_more (b.0 == c) (member s c) (member t c) more (sym (member_added b.0 s c) ∙ e)
     by false e = more e
 missing_more g line s t c more h = more h
 
@@ -47,11 +45,7 @@ since_more g (x ∷ s) u t none some c h = by (has locks_any (s ++ u)) (has_afte
   where
     has_after : (s : Work) → has locks_any (s ++ t) ≡ true
     has_after [] = some
-    has_after (y ∷ s) = or_true (locks_any y.0) (has locks_any (s ++ t)) (has_after s)
-      where
-        or_true : (x y : Bool) → y ≡ true → (x || y) ≡ true
-        or_true true y e = refl
-        or_true false y e = e
+    has_after (y ∷ s) = or_right (locks_any y.0) (has locks_any (s ++ t)) (has_after s)
 
     one_only : (c : ℕ) → member (missing g x.0 []) c ≡ true → member (missing g x.0 (among (missing g) (since locks_any (s ++ t)))) c ≡ true
     one_only c e = missing_more g x.0 [] (among (missing g) (since locks_any (s ++ t))) c (λ f. absurd (cc f)) e

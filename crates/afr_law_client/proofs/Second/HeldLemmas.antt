@@ -1,5 +1,6 @@
 -- A transaction that is acknowledged has asked for an unlock: until then each brick that did post-op has its lock held.
-use Rattle.std.proofs.Common.{◌≡◌, ℕ, ◌||◌, Bool, true, false, List, [], ◌∷◌, None, length, nat_le, refl, sym, ap, ◌∙◌, subst, Option, if◌then◌else◌}
+use Rattle.std.proofs.Common.{◌≡◌, ℕ, ◌||◌, Bool, true, false, List, [], ◌∷◌, None, length, refl, sym, ap, ◌∙◌, subst, Option, if◌then◌else◌}
+use Rattle.std.proofs.lemmas.Bool.{or_right}
 use Rattle.afr_base.specs.Bricks.{IsIn, added, added_if, below, is_nothing, lowest, member, minus}
 use Rattle.afr_base.specs.Majority.{is_majority}
 use Rattle.afr_base.specs.SetLemmas.{lowest_in, lowest_left, majority_some, within_below}
@@ -27,7 +28,7 @@ use Rattle.afr_discipline.specs.Notes.{asked_at, noted_ask, shown, stayed}
 use Rattle.afr_discipline.specs.declared.register.Register.{Register}
 use Rattle.afr_discipline.specs.declared.register.Step.TheVariants as step
 use Rattle.afr_plan.specs.declared.plan.Plan.{Plan}
-use Rattle.afr_model.specs.Parts.{after_names, first_part, is_again, names_asked, unlocks_any}
+use Rattle.afr_model.specs.Parts.{first_part, is_again, unlocks_any}
 use Rattle.afr_model.specs.Showing.{has}
 use Rattle.afr_client_transaction.specs.Between.{is_read, noted_read}
 use Rattle.afr_client_transaction.specs.Outcome.{reply_of}
@@ -44,6 +45,7 @@ use Rattle.afr_law_client.proofs.Leaves.{Leaves, apply_asks, apply_leaves, lock_
 use Rattle.afr_law_client.proofs.Small.{no_number, number_named, self}
 use Rattle.afr_law_client.specs.Second.Held.{AcknowledgedUnlocks, AreHeld, HeldFirst, HeldGivenUp, HeldKept, HeldRead, HeldUnlocked, Holds, HoldsIn, PartUnlocks}
 use Rattle.afr_law_client.proofs.Second.HeldSets.{asked_more, done_one, held_after, looked_one, moved, next_phase}
+use Rattle.afr_law_client.proofs.Rename.Cut.{has_after}
 
 -- ---- what an answer leaves of the locks that are held
 module _ (r : Register) (b : ℕ) where
@@ -351,25 +353,13 @@ either : (x y z : Bool) → (y ≡ true → z ≡ true) → (x || y) ≡ true �
 either true y z f e = refl
 either false y z f e = f e
 
-or_true : (x y : Bool) → y ≡ true → (x || y) ≡ true
-or_true true y e = refl
-or_true false y e = e
-
-in_after : (test : Line → Bool) (k : ℕ) (w : Work) → has test (after_names k w) ≡ true → has test w ≡ true
-in_after test k [] h = absurd (cc h)
-in_after test k (x ∷ w) h = by (nat_le k (names_asked w)) (in_after test k w) h
-  where
-    by : (later : Bool) → (has test (after_names k w) ≡ true → has test w ≡ true) → has test (if later then x ∷ after_names k w else []) ≡ true → (test x.0 || has test w) ≡ true
-    by true rest h = either (test x.0) (has test (after_names k w)) (has test w) rest h
-    by false rest h = absurd (cc h)
-
 in_first : (test : Line → Bool) (w : Work) → has test (first_part w) ≡ true → has test w ≡ true
 in_first test [] h = absurd (cc h)
 in_first test (x ∷ w) h = by (is_again x.0 w) (in_first test w) h
   where
     by : (again : Bool) → (has test (first_part w) ≡ true → has test w ≡ true) → has test (if again then first_part w else x ∷ w) ≡ true → (test x.0 || has test w) ≡ true
-    by true rest h = or_true (test x.0) (has test w) (rest h)
+    by true rest h = or_right (test x.0) (has test w) (rest h)
     by false rest h = h
 
 pub part_unlocks : PartUnlocks
-part_unlocks from w h = in_first unlocks_any w (in_after unlocks_any (length from) (first_part w) h)
+part_unlocks from w h = in_first unlocks_any w (has_after unlocks_any (length from) (first_part w) h)

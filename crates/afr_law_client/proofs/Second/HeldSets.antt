@@ -3,6 +3,7 @@ use Rattle.std.proofs.Common.{◌≡◌, ◌⊎◌, inl, inr, ℕ, ◌==◌, ◌
 use Rattle.std.proofs.lemmas.Bool.Decides.{eqb_tells}
 use Rattle.afr_base.specs.Bricks.{IsIn, added, added_if, member, minus, removed}
 use Rattle.afr_base.specs.SetLemmas.{member_added, member_minus, member_removed}
+use Rattle.afr_base.proofs.TestLemmas.{unless_then}
 use Rattle.afr_object.specs.declared.entry.View.{View}
 use Rattle.afr_choice.specs.Looks.{with_look, without_look}
 use Rattle.afr_choice.specs.LooksLemmas.{holder_after_loss, holder_after_other_look, holder_after_other_loss}
@@ -87,11 +88,7 @@ next_phase did asked later held did_held none = record {
 }
   where
     among : (c : ℕ) → member (minus did asked) c ≡ true → member did c ≡ true
-    among c h = by (member asked c) (member did c) (sym (member_minus did asked c) ∙ h)
-      where
-        by : (x y : Bool) → (not x && y) ≡ true → y ≡ true
-        by true y e = absurd (cc e)
-        by false y e = e
+    among c h = unless_then (member asked c) (member did c) (sym (member_minus did asked c) ∙ h)
 
 -- ---- what was done
 -- a phase that brick b carried out, which it didn't where its session has ended

@@ -1,8 +1,7 @@
 -- The lines of a second transaction tell of it as those of a first one do.
-use Rattle.std.proofs.Common.{◌∷◌, length, refl, sym, subst}
+use Rattle.std.proofs.Common.{◌∷◌, length, refl, sym, subst, inr}
 use Rattle.afr_client_transaction.specs.Progress.{starting}
 use Rattle.afr_client_transaction.proofs.Kept.{sound_first}
-use Rattle.std.proofs.Common.{inr}
 use Rattle.afr_law_client.specs.Laws.{TellsFirst, TellsKept}
 use Rattle.afr_law_client.specs.Tells.{Tells}
 use Rattle.afr_client_transaction.specs.Again.Again.{AgainSound, opened}

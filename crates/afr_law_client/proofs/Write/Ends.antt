@@ -30,7 +30,7 @@ use Rattle.afr_client_write.specs.declared.stage.WriteStage.TheVariants.{Walking
 use Rattle.afr_law_client.specs.Read.Lines.{CanAnswer}
 use Rattle.afr_law_client.specs.Read.WalkTelling.{WalkTells}
 use Rattle.afr_law_client.proofs.Read.ReadsMore.{asks_same}
-use Rattle.afr_law_client.proofs.Read.Walking.{path_kept, walk_tells_more}
+use Rattle.afr_law_client.proofs.Read.Walking.{walk_tells_more}
 use Rattle.afr_law_client.proofs.Read.WalksEnd.{about as walk_line}
 use Rattle.afr_law_client.specs.About.{BlamesNext}
 use Rattle.afr_law_client.specs.Laws.{IsNextLine}
@@ -39,6 +39,7 @@ use Rattle.afr_law_client.specs.Write.WriteLaws.{WriteAbout, WriteBegun, WriteBl
 use Rattle.afr_law_client.specs.Write.WriteTelling.{CanHear, TellsIn, Walks, WriteTells, command_of}
 use Rattle.afr_law_client.proofs.Write.Begins.{moved}
 use Rattle.afr_law_client.proofs.Write.Goes.{asked_more, begun_more, change_end, change_line}
+use Rattle.afr_client_entry.proofs.Renames.RenameLemmas.{walked_path}
 
 -- ---- while the path is walked
 walks_more : (p : Plan) (c : Command) (job : WriteJob) (w : Walk) (lines : Work) (a : ActorId) (chosen : BrickId) (heard : Answer) (took : Bool) (log : List Line) → IsWrite w (Walking job) → Walks p c job w lines
@@ -59,7 +60,7 @@ walks_more p c job w lines a chosen heard took log sound k can among = record { 
     tells = walk_tells_more p c w lines a chosen heard took log (length log) sound.sound sound.ready.0 k.tells can among
 
     same : command_of job after.path ≡ c
-    same = ap (λ (path : List NameId). command_of job path) (path_kept chosen heard (length log) w) ∙ sym k.named
+    same = ap (λ (path : List NameId). command_of job path) (walked_path chosen heard (length log) w) ∙ sym k.named
 
     small : too_large (command_of job after.path) ≡ None
     small = subst (λ (x : Command). too_large x ≡ None) (sym same) k.small

@@ -8,6 +8,7 @@ use Rattle.afr_base.specs.declared.ids.BrickId.{BrickId}
 use Rattle.afr_base.specs.declared.ids.Gfid.{Gfid}
 use Rattle.afr_base.specs.declared.ids.What.{What}
 use Rattle.afr_base.specs.declared.ids.What.TheVariants.{File, Dir}
+use Rattle.afr_base.proofs.TestLemmas.{one_value}
 use Rattle.afr_choice.specs.Looks.{no_looks, view_at}
 use Rattle.afr_choice.specs.declared.looked.Looked.{Looked}
 use Rattle.afr_discipline.specs.Tests.{ends_low, fits_view}
@@ -40,6 +41,7 @@ use Rattle.afr_client_transaction.specs.Progress.{TransactionProgress, asks, beg
 use Rattle.afr_client_transaction.specs.Sound.{Sound}
 use Rattle.afr_client_transaction.specs.declared.stage.Stage.{Stage}
 use Rattle.afr_client_transaction.specs.declared.stage.Stage.TheVariants.{Locking, Looking, Beginning, Preparing, Applying, Posting, Closing}
+use Rattle.afr_client_transaction.proofs.NoteLemmas.{fed_change}
 use Rattle.afr_client_write.specs.Write.{begun_in}
 use Rattle.afr_law_client.specs.Read.ChangeLaws.{ChangeStands, IsChangeOf, is_of_change}
 use Rattle.afr_law_client.specs.Read.Lines.{is_look}
@@ -56,9 +58,6 @@ use Rattle.afr_law_client.proofs.Over.{ends_answered}
 use Rattle.afr_law_client.proofs.Small.{object_named, self}
 use Rattle.afr_law_client.specs.Write.WriteTelling.{AreFitting, CanTell, ChangesObject}
 
-just : {A : Type 0} → (x y : A) → Some x ≡ Some y → x ≡ y
-just x y e = cc e
-
 -- ---- such an object as the change is for
 file_code : (what : What) → is_dir what ≡ false → (what_code what == 1) ≡ true
 file_code File h = refl
@@ -71,11 +70,11 @@ some_code Dir = refl
 -- a view of the object's kind suits the change
 suits_view : (c : Command) (object : Entry) (change : Change) → IsChangeOf c object change → (view : View) → view.what ≡ object.what → fits_view (Some view) change ≡ true
 suits_view (command.Write path at bytes) object change k view e =
-    subst (λ (x : Change). fits_view (Some view) x ≡ true) (just (change_of.Write object.gfid at bytes) change k.named) (file_code view.what (ap is_dir e ∙ k.suits))
+    subst (λ (x : Change). fits_view (Some view) x ≡ true) (one_value (change_of.Write object.gfid at bytes) change k.named) (file_code view.what (ap is_dir e ∙ k.suits))
 suits_view (command.Cut path len) object change k view e =
-    subst (λ (x : Change). fits_view (Some view) x ≡ true) (just (change_of.Cut object.gfid len) change k.named) (file_code view.what (ap is_dir e ∙ k.suits))
+    subst (λ (x : Change). fits_view (Some view) x ≡ true) (one_value (change_of.Cut object.gfid len) change k.named) (file_code view.what (ap is_dir e ∙ k.suits))
 suits_view (command.SetAttr path key value) object change k view e =
-    subst (λ (x : Change). fits_view (Some view) x ≡ true) (just (change_of.SetAttr object.gfid key value) change k.named) (some_code view.what)
+    subst (λ (x : Change). fits_view (Some view) x ≡ true) (one_value (change_of.SetAttr object.gfid key value) change k.named) (some_code view.what)
 suits_view other object change k view e = absurd (cc k.named)
 
 -- a change that isn't too large ends low
@@ -87,19 +86,19 @@ low_of x y e = go (nat_lt 1048576 x) refl e
     go false h e = grind (arith, nat_tests, h)
 
 low_is : (c : Command) (object : Entry) (change : Change) → IsChangeOf c object change → ends_low change ≡ true
-low_is (command.Write path at bytes) object change k = subst (λ (x : Change). ends_low x ≡ true) (just (change_of.Write object.gfid at bytes) change k.named) (low_of (at + length bytes) _ k.fits)
-low_is (command.Cut path len) object change k = subst (λ (x : Change). ends_low x ≡ true) (just (change_of.Cut object.gfid len) change k.named) refl
-low_is (command.SetAttr path key value) object change k = subst (λ (x : Change). ends_low x ≡ true) (just (change_of.SetAttr object.gfid key value) change k.named) refl
+low_is (command.Write path at bytes) object change k = subst (λ (x : Change). ends_low x ≡ true) (one_value (change_of.Write object.gfid at bytes) change k.named) (low_of (at + length bytes) _ k.fits)
+low_is (command.Cut path len) object change k = subst (λ (x : Change). ends_low x ≡ true) (one_value (change_of.Cut object.gfid len) change k.named) refl
+low_is (command.SetAttr path key value) object change k = subst (λ (x : Change). ends_low x ≡ true) (one_value (change_of.SetAttr object.gfid key value) change k.named) refl
 low_is other object change k = absurd (cc k.named)
 
 -- it makes no object, so its Begin line has it as it is
 numbered_same : (c : Command) (object : Entry) (change : Change) (at : ℕ) → IsChangeOf c object change → numbered at change ≡ change
-numbered_same (command.Write path at bytes) object change n k = subst (λ (x : Change). numbered n x ≡ x) (just (change_of.Write object.gfid at bytes) change k.named) refl
-numbered_same (command.Cut path len) object change n k = subst (λ (x : Change). numbered n x ≡ x) (just (change_of.Cut object.gfid len) change k.named) refl
-numbered_same (command.SetAttr path key value) object change n k = subst (λ (x : Change). numbered n x ≡ x) (just (change_of.SetAttr object.gfid key value) change k.named) refl
+numbered_same (command.Write path at bytes) object change n k = subst (λ (x : Change). numbered n x ≡ x) (one_value (change_of.Write object.gfid at bytes) change k.named) refl
+numbered_same (command.Cut path len) object change n k = subst (λ (x : Change). numbered n x ≡ x) (one_value (change_of.Cut object.gfid len) change k.named) refl
+numbered_same (command.SetAttr path key value) object change n k = subst (λ (x : Change). numbered n x ≡ x) (one_value (change_of.SetAttr object.gfid key value) change k.named) refl
 numbered_same other object change n k = absurd (cc k.named)
 
-nothing_shown : (b : ℕ) → view_at b no_looks ≡ None
+pub nothing_shown : (b : ℕ) → view_at b no_looks ≡ None
 nothing_shown zero = refl
 nothing_shown (suc zero) = refl
 nothing_shown (suc (suc zero)) = refl
@@ -196,15 +195,6 @@ of_stage Applying t a b told took = refl
 of_stage Posting t a b told took = refl
 of_stage Closing t a b told took = refl
 
-pub fed_same : (stage : Stage) (told : Told) (at : ℕ) (t : TransactionProgress) → (fed stage told at t).change ≡ t.change
-fed_same Locking told at t = refl
-fed_same Looking told at t = refl
-fed_same Beginning told at t = refl
-fed_same Preparing told at t = refl
-fed_same Applying told at t = refl
-fed_same Posting told at t = refl
-fed_same Closing told at t = refl
-
 pub begun_fed : (stage : Stage) (at : ℕ) (t : TransactionProgress) → stage ≡ Beginning → (if is_beginning stage then begun at t else t) ≡ fed stage as_told.Done at t
 begun_fed Beginning at t e = refl
 begun_fed Locking at t e = absurd (cc e)
@@ -220,13 +210,13 @@ module _ (p : Plan) (c : Command) (object : Entry) (lines : Work) (a : ActorId) 
   after_line : (told : Told) (line : Line) → IsNextLine a (next_change t.stage (length log) t) told line → is_of_change line ≡ true → LineFits line → LineFitsPhase line → AreFitting p.shape.n t.change ((line, log) ∷ lines)
       → ChangesObject p c object (fed t.stage told (length log) t) ((line, log) ∷ lines)
   after_line told line is of fits phase fitting = record {
-    words = subst (λ (x : Change). IsChangeOf c object x) (sym (fed_same t.stage told (length log) t)) k.words;
+    words = subst (λ (x : Change). IsChangeOf c object x) (sym (fed_change t.stage told (length log) t)) k.words;
     led = (keeps_path p c object line log lines of k.led).0;
     unread = (keeps_path p c object line log lines of k.led).1 ∙ k.unread;
     tells = tells_kept p lines t a told line log sound k.tells is;
     excused = excused_kept p lines t a told line log sound k.tells is fits phase k.excused;
     calm = calm_kept p lines t a told line log sound k.tells is phase k.calm;
-    fitting = subst (λ (x : Change). AreFitting p.shape.n x ((line, log) ∷ lines)) (sym (fed_same t.stage told (length log) t)) fitting;
+    fitting = subst (λ (x : Change). AreFitting p.shape.n x ((line, log) ∷ lines)) (sym (fed_change t.stage told (length log) t)) fitting;
   }
 
   pub asked_more : (b : BrickId) (request : Request) (told : Told) (took : Bool) → next_change t.stage (length log) t ≡ next.Ask b request → CanTell object request told

@@ -1,7 +1,7 @@
 -- What a healer's line counts in the log, and what each of its rounds may cost.
-use Rattle.std.proofs.Common.{◌≡◌, ◌≢◌, ℕ, zero, suc, ◌≤◌, ◌==◌, ◌⊎◌, Bool, true, false, List, [], ◌∷◌, Some, refl, sym, arith, map, slice_get, inl, inr}
+use Rattle.std.proofs.Common.{◌≡◌, ◌≢◌, ℕ, zero, suc, ◌≤◌, ◌==◌, ◌⊎◌, Bool, true, false, List, [], ◌∷◌, Some, refl, sym, arith, map, slice_get}
 use Rattle.std.specs.Prelude.{nat_lt}
-use Rattle.std.proofs.lemmas.Bool.Decides.{eqb_tells, nat_tests}
+use Rattle.std.proofs.lemmas.Bool.Decides.{nat_tests}
 use Rattle.afr_base.specs.declared.ids.ActorId.{ActorId}
 use Rattle.afr_base.specs.declared.ids.BrickId.{BrickId}
 use Rattle.afr_law_bound.specs.Ends.Cost.{costs_of, counted, round_cost}
@@ -27,13 +27,6 @@ counted_ask a b asked told took = refl
 -- ---- whose line it is
 pub self : (n : ℕ) → (n == n) ≡ true
 self n = grind (arith, nat_tests)
-
-pub same_actor : (a c : ℕ) → (a == c) ≡ true → c ≡ a
-same_actor a c h = by (eqb_tells a c)
-  where
-    by : ((a == c) ≡ true) × (a ≡ c) ⊎ ((a == c) ≡ false) × (a ≢ c) → c ≡ a
-    by (inl e) = sym e.1
-    by (inr e) = (let no = e.0 in absurd (cc (sym h, no)))
 
 -- ---- the costs of a healer
 one_cost : (xs : List BrickId) (k each cost : ℕ) → slice_get (map (λ b. each) xs) k ≡ Some cost → cost ≡ each

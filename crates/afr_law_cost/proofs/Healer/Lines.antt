@@ -20,7 +20,7 @@ use Rattle.afr_lines.specs.declared.reply.HealReply.{HealReply}
 use Rattle.afr_lines.specs.declared.request.Request.{Request}
 use Rattle.afr_lines.specs.declared.request.Request.TheVariants.{Index}
 use Rattle.afr_plan.specs.declared.plan.Plan.{Plan}
-use Rattle.afr_law_cost.proofs.Healer.Counting.{counted_ask, same_actor, self}
+use Rattle.afr_law_cost.proofs.Healer.Counting.{counted_ask, self}
 use Rattle.afr_law_cost.proofs.Healer.Spending.{GoesOn, IsKept, ends_round, goes_on}
 use Rattle.afr_law_cost.specs.Healer.Laws.{RoundPacedLine}
 use Rattle.afr_law_cost.specs.Healer.Paced.{IsPacedRound, ListsAtMost}
@@ -33,6 +33,7 @@ use Rattle.afr_healer.specs.declared.healer.Healer.{Healer}
 use Rattle.afr_heal_machine.specs.Healing.{Healing as Heal}
 use Rattle.afr_server.specs.NextLine.{told_line}
 use Rattle.afr_server.specs.Serving.{Serving}
+use Rattle.afr_law.proofs.Alike.Raises.{equal_is}
 
 -- the laws of the crates below that a line's cost rests on
 pub record LineLaws : Type 0 where
@@ -94,7 +95,7 @@ module _ (laws : LineLaws) (p : Plan) (a : ActorId) (log : List Line) (servers n
   asks b request e q = to_line (told_line a b request q.given) (Some q.after) q.is_line (ap (λ (z : Healer). z.round) q.becomes) (goes_on laws.end p a log m k (told_line a b request q.given) q.after own spends near.1)
     where
       own : GoesOn a (told_line a b request q.given)
-      own = record { own = self a.0; alone = λ c h. same_actor a.0 c h; on = refl; ends_none = refl }
+      own = record { own = self a.0; alone = λ c h. equal_is a.0 c h; on = refl; ends_none = refl }
 
       near : (round_left (objects_of p) q.after + taken_by (next_of m) q.given.answer ≤ round_left (objects_of p) m) × AreRooted q.after.stage
       near =
@@ -112,13 +113,13 @@ module _ (laws : LineLaws) (p : Plan) (a : ActorId) (log : List Line) (servers n
   begins g kind e q =
       let n = laws.begun (objects_of p) m (length log) sound k.rooted (ap is_beginning e) in
       to_line (line_of.HealBegin a g kind) (Some (begun (length log) m)) q.is_line (ap (λ (z : Healer). z.round) q.becomes)
-      (goes_on laws.end p a log m k (line_of.HealBegin a g kind) (begun (length log) m) (record { own = self a.0; alone = λ c h. same_actor a.0 c h; on = refl; ends_none = refl }) n.0 n.1)
+      (goes_on laws.end p a log m k (line_of.HealBegin a g kind) (begun (length log) m) (record { own = self a.0; alone = λ c h. equal_is a.0 c h; on = refl; ends_none = refl }) n.0 n.1)
 
   heals : (g : Gfid) (kind : Kind) (said : HealReply) → next_of m ≡ next.HealEnd g kind said → IsHealed a g kind said x y m servers new line → IsKept p a log y.round line
   heals g kind said e q =
       let n = laws.healed (objects_of p) m sound (ap is_ending e) in
       to_line (line_of.HealEnd a g kind said) (Some (healed m)) q.is_line (ap (λ (z : Healer). z.round) q.becomes)
-      (goes_on laws.end p a log m k (line_of.HealEnd a g kind said) (healed m) (record { own = self a.0; alone = λ c h. same_actor a.0 c h; on = refl; ends_none = refl }) n.0 n.1)
+      (goes_on laws.end p a log m k (line_of.HealEnd a g kind said) (healed m) (record { own = self a.0; alone = λ c h. equal_is a.0 c h; on = refl; ends_none = refl }) n.0 n.1)
 
   steps : (coming : Next) → next_of m ≡ coming → SteppedBy IsAnswered a (length log) x y m servers new line coming → IsKept p a log y.round line
   steps (next.Ask b request) e q = asks b request e q

@@ -9,10 +9,11 @@ use Rattle.afr_lines.specs.declared.line.Line.{Line}
 use Rattle.afr_lines.specs.declared.line.Line.TheVariants.{End}
 use Rattle.afr_lines.specs.declared.reply.Reply.{Reply}
 use Rattle.afr_plan.specs.declared.plan.Plan.{Plan}
-use Rattle.afr_law_cost.proofs.Healer.Counting.{same_actor, self}
+use Rattle.afr_law_cost.proofs.Healer.Counting.{self}
 use Rattle.afr_law_cost.specs.Healer.Paced.{IsPacedRound}
 use Rattle.afr_law_cost.specs.Round.Laws.{RoundEndLeft}
 use Rattle.afr_law_cost.specs.Round.Left.{AreRooted, round_left}
+use Rattle.afr_law.proofs.Alike.Raises.{equal_is}
 
 -- the actor's line, which ends no work
 pub record GoesOn (a : ActorId) (line : Line) : Type 0 where
@@ -64,4 +65,4 @@ module _ (end : RoundEndLeft) (p : Plan) (a : ActorId) (log : List Line) (m : Ro
           omega (arith, h, left)
 
       is_within : IsWithinCost p (End a said) log
-      is_within c cost mine e = (let same = same_actor a.0 c mine in rw same (own_cost cost (rw same at e)))
+      is_within c cost mine e = (let same = equal_is a.0 c mine in rw same (own_cost cost (rw same at e)))

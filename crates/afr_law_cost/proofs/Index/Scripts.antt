@@ -1,11 +1,9 @@
 -- The lines of a log make no more objects than the scripts have commands that make one.
-use Rattle.std.proofs.Common.{◌≡◌, ℕ, zero, suc, ◌+◌, ◌-◌, ◌<◌, ◌≤◌, ◌==◌, Bool, true, false, refl, sym, subst, arith, List, [], ◌∷◌, ◌++◌, length, Option, Some, None}
-use Rattle.std.proofs.Common.{length-append}
+use Rattle.std.proofs.Common.{◌≡◌, ℕ, zero, suc, ◌+◌, ◌-◌, ◌<◌, ◌≤◌, ◌==◌, Bool, true, false, refl, sym, subst, arith, List, [], ◌∷◌, ◌++◌, length, Option, Some, None, length-append}
 use Rattle.std.specs.List.{range_with_len}
 use Rattle.std.specs.Option.{option_map}
 use Rattle.std.specs.Prelude.{if◌then◌else◌, slice_get, slice_index_or}
-use Rattle.std.proofs.lemmas.Bool.{eqb-true}
-use Rattle.std.proofs.lemmas.Bool.Decides.{nat_tests}
+use Rattle.std.proofs.lemmas.Bool.{eqb-true, ne_eqb}
 use Rattle.afr_base.specs.declared.ids.ActorId.{ActorId}
 use Rattle.afr_base.specs.declared.ids.Gfid.{Gfid}
 use Rattle.afr_base.specs.declared.ids.NameId.{NameId}
@@ -108,9 +106,6 @@ data Begun (p : Plan) (x : ActorId) (change : Change) (older : List Line) : Type
   First : has begins_attempt (work x.0 older) ≡ false → length (numbers_in (length older) (Begin x change)) ≤ makes_in (slice_get (script_of p x.0) (ended x.0 older)) → Begun p x change older
   Links : length (numbers_in (length older) (Begin x change)) ≡ 0 → Begun p x change older
 
-differs : (x y : ℕ) → (x ≡ y → ⊥) → (x == y) ≡ false
-differs x y h = grind (arith, nat_tests, h)
-
 -- a file that was found has the number of an earlier line
 linked_count : (p : Plan) (x : ActorId) (older : List Line) → IsOfPlan p older → (from : List NameId) (h file : Gfid) → HasFound p from file (work x.0 older) → (o : Option NameId) → count_in (length older) x (option_map (λ name. Make h name file File) o) ≤ 0
 linked_count p x older f from h file found None = omega arith
@@ -120,8 +115,8 @@ linked_count p x older f from h file found (Some name) = rw other (omega arith)
     read = found_read p x older from file f.few f.short f.honest f.lawful found
 
     apart : IsNumbered p read.r file.0 → (file.0 == length older + 2) ≡ false
-    apart (Opening known high) = (let short = f.short in differs file.0 (length older + 2) (λ e. omega (arith, e, short, high)))
-    apart (Given some low) = (let past = read.past in differs file.0 (length older + 2) (λ e. omega (arith, e, past, low)))
+    apart (Opening known high) = (let short = f.short in ne_eqb file.0 (length older + 2) (λ e. omega (arith, e, short, high)))
+    apart (Given some low) = (let past = read.past in ne_eqb file.0 (length older + 2) (λ e. omega (arith, e, past, low)))
 
     other : (file.0 == length older + 2) ≡ false
     other = apart (numbered p older f.few f.short f.honest f.lawful read.r read.b read.dir read.name file.0 File read.gave)

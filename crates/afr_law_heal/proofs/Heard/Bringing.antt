@@ -4,6 +4,7 @@ use Rattle.afr_base.specs.declared.ids.Gfid.{Gfid}
 use Rattle.afr_base.specs.declared.ids.Kind.{Kind}
 use Rattle.afr_base.specs.declared.ids.Kind.TheVariants as kind_of
 use Rattle.afr_base.specs.declared.ids.NameId.{NameId}
+use Rattle.afr_base.proofs.TestLemmas.{same_number}
 use Rattle.afr_object.specs.State.{contents_of}
 use Rattle.afr_discipline.specs.Five.{has_read}
 use Rattle.afr_discipline.specs.Stands.{reads_of, seen_as}
@@ -14,7 +15,7 @@ use Rattle.afr_heal.specs.Requests.{position, read_in, repair_in}
 use Rattle.afr_heal.specs.Standing.{Ending, First, Going, Healing as HealingLocks, Looking, Parting, Standing, Viewing, Working}
 use Rattle.afr_heal_merge.specs.Merging.{present}
 use Rattle.afr_law_heal.proofs.Heard.Asks.{HealAsked, OfFirst, OfLock, OfLook, OfMend, OfPre, OfRead, OfSettle, OfUnlock, asked_of}
-use Rattle.afr_law_heal.proofs.Heard.Showing.{all_shown, all_unread, bytes_any, five_places, itself, none_at, still_held, unread}
+use Rattle.afr_law_heal.proofs.Heard.Showing.{all_shown, all_unread, bytes_any, five_places, none_at, still_held, unread}
 use Rattle.afr_law_heal.specs.Heard.Holds.{AreShown, HealBrings, HoldsBegun, HoldsOther, HoldsReads, NothingRead}
 use Rattle.afr_lines.specs.Log.{from_oldest}
 use Rattle.afr_lines.specs.declared.line.Line.{Line}
@@ -133,9 +134,9 @@ module _ (p : Plan) (log : List Line) (n : ℕ) (keeps : ℕ → Kind → Bool) 
   mend_goes : (kind : Kind) (part : HealPart) → mends_at keeps r s kind part b ≡ true → (reads_at n keeps r s kind part s ≡ true → has_read (r.reads s) ≡ true) → (kind ≡ kind_of.Bytes → is_opening part ≡ true → contents ≡ Nothing)
       → HoldsReads p log kind (reads_of reads s) reads contents → Goal kind part
   mend_goes kind_of.Bytes Opening turns noted none h = goes ∙ ap (λ (c : ReadSoFar). carried_in (readied c)) (none refl refl)
-  mend_goes kind_of.Bytes Piece turns noted none h = bytes_goes (r.reads s) (noted (itself s)) (subst (λ (f : ℕ → Option ℕ). HoldsReads p log kind_of.Bytes (f s) reads contents) (sym same) h)
+  mend_goes kind_of.Bytes Piece turns noted none h = bytes_goes (r.reads s) (noted (same_number s)) (subst (λ (f : ℕ → Option ℕ). HoldsReads p log kind_of.Bytes (f s) reads contents) (sym same) h)
   mend_goes kind_of.Bytes Finish turns noted none h = absurd (cc turns)
-  mend_goes kind_of.Attrs part turns noted none h = attrs_goes (r.reads s) (noted (itself s)) (subst (λ (f : ℕ → Option ℕ). HoldsReads p log kind_of.Attrs (f s) reads contents) (sym same) h)
+  mend_goes kind_of.Attrs part turns noted none h = attrs_goes (r.reads s) (noted (same_number s)) (subst (λ (f : ℕ → Option ℕ). HoldsReads p log kind_of.Attrs (f s) reads contents) (sym same) h)
   mend_goes kind_of.Names part turns noted none h =
       names_goes contents refl sound h
       ∙ ap (λ (xs : List (Option ℕ)). contents_in.Names (merged (all_names_shown (held_before p log) log xs))) (five_places reads five ∙ ap (λ (f : ℕ → Option ℕ). f 0 ∷ f 1 ∷ f 2 ∷ f 3 ∷ f 4 ∷ []) (sym same))

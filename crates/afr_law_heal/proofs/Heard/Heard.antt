@@ -6,6 +6,7 @@ use Rattle.afr_base.specs.Bricks.{added_if, member}
 use Rattle.afr_base.specs.SetLemmas.{member_added_if}
 use Rattle.afr_base.specs.declared.ids.Gfid.{Gfid}
 use Rattle.afr_base.specs.declared.ids.Kind.{Kind}
+use Rattle.afr_base.proofs.TestLemmas.{neither_second}
 use Rattle.afr_base.specs.declared.ids.Kind.TheVariants as kind_of
 use Rattle.afr_discipline.specs.Notes.{asked_at, broken_by, noted_ask, noted_inside, noted_outside, noted_steps, part_after, still_possible}
 use Rattle.afr_discipline.specs.Stands.{heal_part_of, seen_as, step_of}
@@ -223,11 +224,7 @@ asked_list p at x = go (same_step (step_of p.step) (step_of at))
 
 -- another brick than the one that is asked stays unasked
 pub unasked : (flag : Bool) (b x : ℕ) (s : List ℕ) → member (added_if flag b s) x ≡ false → member s x ≡ false
-unasked flag b x s h = go (flag && (b == x)) (member s x) (sym (member_added_if flag b s x) ∙ h)
-  where
-    go : (e m : Bool) → (e || m) ≡ false → m ≡ false
-    go true m h = absurd (cc h)
-    go false m h = h
+unasked flag b x s h = neither_second (flag && (b == x)) (member s x) (sym (member_added_if flag b s x) ∙ h)
 
 -- and that one is asked
 pub asked_here : (b : ℕ) (s : List ℕ) → member (added_if true b s) b ≡ true

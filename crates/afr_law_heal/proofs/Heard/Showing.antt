@@ -5,6 +5,7 @@ use Rattle.std.specs.Prelude.{slice_index_or, slice_set}
 use Rattle.afr_base.specs.declared.ids.Kind.{Kind}
 use Rattle.afr_base.specs.declared.ids.Kind.TheVariants as kind_of
 use Rattle.afr_base.specs.declared.ids.NameId.{NameId}
+use Rattle.afr_base.proofs.TestLemmas.{same_number}
 use Rattle.afr_heal_merge.specs.Merging.{present}
 use Rattle.afr_law_heal.specs.Heard.Holds.{AreShown, HoldsReads}
 use Rattle.afr_lines.specs.Log.{from_oldest}
@@ -37,9 +38,6 @@ names_by past older k same (Some (Ask a b request told took)) = refl
 names_by past older k same (Some line) = refl
 names_by past older k same None = refl
 
-pub itself : (k : ℕ) → (k == k) ≡ true
-itself k = grind (arith, nat_tests)
-
 -- ---- one line more
 module _ (p : Plan) (line : Line) (log : List Line) where
   -- older lines stand where they stood
@@ -51,10 +49,10 @@ module _ (p : Plan) (line : Line) (log : List Line) where
 
   -- and the newest at the end
   pub line_now : from_oldest (length log) (line ∷ log) ≡ Some line
-  line_now = rw (itself (length log)) refl
+  line_now = rw (same_number (length log)) refl
 
   pub held_now : (b : ℕ) → held_before p (line ∷ log) (length log) b ≡ holds p log b
-  held_now b = rw (itself (length log)) refl
+  held_now b = rw (same_number (length log)) refl
 
   pub bytes_then : (k : ℕ) → k < length log → bytes_shown (held_before p (line ∷ log)) k (from_oldest k (line ∷ log)) ≡ bytes_shown (held_before p log) k (from_oldest k log)
   bytes_then k low = ap (bytes_shown (held_before p (line ∷ log)) k) (line_then k low) ∙ bytes_by (held_before p (line ∷ log)) (held_before p log) k (held_then k low) (from_oldest k log)

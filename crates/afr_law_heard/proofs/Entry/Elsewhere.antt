@@ -1,6 +1,5 @@
 -- No name leads to its own directory: a file is no directory, and a name of a directory leads to a newer one.
 use Rattle.std.proofs.Common.{◌≡◌, ℕ, ◌<◌, ◌≤◌, ◌==◌, Bool, false, List, Some, length, refl, arith}
-use Rattle.std.proofs.lemmas.Bool.Decides.{nat_tests}
 use Rattle.afr_base.specs.declared.ids.Gfid.{Gfid}
 use Rattle.afr_base.specs.declared.ids.NameId.{NameId}
 use Rattle.afr_base.specs.declared.ids.What.{What}
@@ -14,6 +13,7 @@ use Rattle.afr_model.specs.Tables.{entry_at, holds}
 use Rattle.afr_law.proofs.Model.Kinds.{one_kind}
 use Rattle.afr_law.specs.Exactly.{IsLawfulExactly}
 use Rattle.afr_law.specs.ModelKinds.{Now}
+use Rattle.afr_law.proofs.Alike.Units.{differ_over}
 use Rattle.afr_law_names.proofs.ApartLemmas.{files_elsewhere}
 use Rattle.afr_law_names.proofs.Descent.Entries.{leads_down}
 
@@ -21,9 +21,6 @@ pub elsewhere : (p : Plan) (log : List Line) → p.shape.n ≤ 5 → length log 
     → (e.gfid.0 == dir.0) ≡ false
 elsewhere p log five short honest lawful crawl follows b dir name e is = go e.what refl
   where
-    greater : (x y : ℕ) → y < x → (x == y) ≡ false
-    greater x y h = grind (arith, nat_tests, h)
-
     go : (what : What) → e.what ≡ what → (e.gfid.0 == dir.0) ≡ false
     go File file = files_elsewhere one_kind p log b dir name e five short honest lawful is file
-    go Dir directory = greater e.gfid.0 dir.0 (leads_down p log (record { few = five; short = short; crawl = crawl; follows = follows; honest = honest; lawful = lawful }) (holds p log b) (Now b refl) dir name e is directory)
+    go Dir directory = differ_over e.gfid.0 dir.0 (leads_down p log (record { few = five; short = short; crawl = crawl; follows = follows; honest = honest; lawful = lawful }) (holds p log b) (Now b refl) dir name e is directory)

@@ -48,7 +48,6 @@ use Rattle.afr_client_entry.specs.declared.job.EntryJob.TheVariants as name
 use Rattle.afr_law_client.specs.Read.ReadTelling.{ReadTells, command_of}
 use Rattle.afr_law_client.proofs.Read.ReadsMore.{about as read_about, ends as read_ends, follows as read_follows, tells_more as read_more}
 use Rattle.afr_law_client.proofs.Read.ReadsTell.{begins as read_begins}
-use Rattle.afr_law_client.proofs.Read.Walking.{path_kept}
 use Rattle.afr_law_client.specs.About.{BlamesNext}
 use Rattle.afr_law_client.specs.Laws.{IsNextLine}
 use Rattle.afr_law_client.proofs.Small.{no_change}
@@ -61,6 +60,7 @@ use Rattle.afr_law_client.proofs.Entry.Ends as entry
 use Rattle.afr_client.proofs.PathLemmas.{path_is, some_names}
 use Rattle.afr_client.proofs.WorkLemmas.{never_begins}
 use Rattle.afr_client_entry.specs.Renames.Paths.{front, last}
+use Rattle.afr_client_entry.proofs.Renames.RenameLemmas.{walked_path}
 use Rattle.afr_law_client.specs.Rename.RenameTelling.{to_of}
 use Rattle.afr_law_client.specs.Rename.RenameLaws.{RenameAbout, RenameBegins, RenameBegun, RenameBlames, RenameEnds, RenameKeepsName, RenameTellsMore}
 use Rattle.afr_plan.specs.OnNames.{has_name}
@@ -91,7 +91,7 @@ begins rename p (command.Rename from to) few some h = rename p from to few some 
 -- ---- after a line
 -- a read goes on along the same path
 same_path : (chosen : BrickId) (stage : LookupStage) (heard : Answer) (at : ℕ) (w : Walk) → (walk_after chosen stage heard at w).path ≡ w.path
-same_path chosen reading.Walking heard at w = path_kept chosen heard at w
+same_path chosen reading.Walking heard at w = walked_path chosen heard at w
 same_path chosen (reading.Looking s) heard at w = refl
 same_path chosen (reading.Reading b of) heard at w = refl
 same_path chosen (reading.Ending said) heard at w = refl

@@ -38,7 +38,7 @@ keeps_to_one p (command.Rename from to) line at w one k = absurd (cc one)
 keeps_to_one p c line at w one k = k
 
 -- the present command is that of the line before
-not_ended : (a : ℕ) (line : Line) → is_end line ≡ false → ends_work a line ≡ false
+pub not_ended : (a : ℕ) (line : Line) → is_end line ≡ false → ends_work a line ≡ false
 not_ended a (End x reply) e = absurd (cc e)
 not_ended a line e = refl
 

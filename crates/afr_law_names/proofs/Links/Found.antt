@@ -1,7 +1,6 @@
 -- What a work's path has led to, one of its lines was given.
 use Rattle.std.proofs.Common.{◌≡◌, ◌⊎◌, ℕ, suc, ◌+◌, ◌≤◌, ◌==◌, nat_le, Bool, true, false, List, [], ◌∷◌, length, refl, ap, subst, arith, inl, inr, Option, Some, None, if◌then◌else◌}
 use Rattle.std.proofs.lemmas.Bool.{eqb-true}
-use Rattle.std.proofs.lemmas.Bool.Decides.{nat_tests}
 use Rattle.afr_base.specs.declared.ids.ActorId.{ActorId}
 use Rattle.afr_base.specs.declared.ids.BrickId.{BrickId}
 use Rattle.afr_base.specs.declared.ids.Gfid.{Gfid}
@@ -16,21 +15,23 @@ use Rattle.afr_lines.specs.Work.{Work, ends_work, is_end, is_of, work}
 use Rattle.afr_lines.specs.declared.answer.Told.{Told}
 use Rattle.afr_lines.specs.declared.answer.Told.TheVariants as as_told
 use Rattle.afr_lines.specs.declared.line.Line.{Line}
-use Rattle.afr_lines.specs.declared.line.Line.TheVariants.{Ask, End}
+use Rattle.afr_lines.specs.declared.line.Line.TheVariants.{Ask}
 use Rattle.afr_lines.specs.declared.request.Request.TheVariants.{ReadName}
 use Rattle.afr_model.specs.Cells.{IsEntry, Name, value_if}
 use Rattle.afr_model.specs.Honest.{Honest, IsHonest, RequestOutcome, fault_in, is_live, over_session, requests_to, tells}
 use Rattle.afr_model.specs.Showing.{At, NoName, Path, Untold, one_name, path_after, path_by, root_entry}
-use Rattle.afr_model.specs.Standing.{asks_name}
 use Rattle.afr_model.specs.Tables.{entry_at, entry_in, holds}
 use Rattle.afr_plan.specs.declared.plan.Plan.{Plan}
 use Rattle.afr_law.proofs.Model.Discipline.{exactly_below}
 use Rattle.afr_law.proofs.Model.SoundLog.{LawfulBelow}
 use Rattle.afr_law.specs.Exactly.{IsLawfulExactly, name_bound}
+use Rattle.afr_law.proofs.Model.Tasks.{other_ends}
 use Rattle.afr_law_names.proofs.ReadLemmas.{HasReadBy, read_before, read_now}
 use Rattle.afr_model.specs.Parts.{names_asked, upto_names}
 use Rattle.afr_model.specs.Renamed.{HasFound}
+use Rattle.afr_model.proofs.Cut.Cut.{upto_all}
 use Rattle.afr_law_names.specs.Links.Links.{FoundIsKnown}
+use Rattle.afr_law_names.proofs.Descent.Steps.{not_ended}
 
 -- an answer that gave something was carried out
 took_given : (live : Bool) (f : Option Fault) (said : Told) (took : Bool) → (record { told = as_told.Given; took = took }) ≡ over_session live f said → took ≡ true
@@ -79,25 +80,6 @@ led_after p a (Ask x b (ReadName dir name) told took) older path lawful own more
 led_after p a line older path lawful own more honest on k = still_led p a line older path on k
 
 -- ---- a work up to a name is a work
--- below its k-th name all lines are before it
-all_before : (k : ℕ) (w : Work) → nat_le k (names_asked w) ≡ false → upto_names k w ≡ w
-all_before k [] e = refl
-all_before k (x ∷ w) e = go (asks_name x.0) e
-  where
-    by : nat_le k (names_asked w) ≡ false → (if nat_le k (names_asked w) then upto_names k w else x ∷ w) ≡ x ∷ w
-    by f = rw f refl
-
-    go : (named : Bool) → nat_le k (if named then names_asked w + 1 else names_asked w) ≡ false → (if nat_le k (names_asked w) then upto_names k w else x ∷ w) ≡ x ∷ w
-    go true f = by (grind (arith, nat_tests, f))
-    go false f = by f
-
-not_ended : (a : ℕ) (line : Line) → is_end line ≡ false → ends_work a line ≡ false
-not_ended a (End x reply) e = absurd (cc e)
-not_ended a line e = refl
-
-not_own : (a : ℕ) (line : Line) → is_of a line ≡ false → ends_work a line ≡ false
-not_own a (End x reply) e = e
-not_own a line e = refl
 
 -- after each line of the work
 led_upto : (p : Plan) (a : ℕ) (log : List Line) → LawfulBelow p (name_bound p) log → Honest p log → (k : ℕ) → IsLed p a log (path_by p (upto_names k (work a log)))
@@ -109,13 +91,13 @@ led_upto p a (line ∷ older) lawful honest k = go (led_upto p a older lawful.1 
     cut before true e own more = still_led p a line older (path_by p (upto_names k (work a older))) (not_ended a line more) (before k)
     cut before false e own more =
         led_after p a line older (path_by p (work a older)) lawful.1 own more honest.0 (not_ended a line more)
-        (subst (λ (w : Work). IsLed p a older (path_by p w)) (all_before k (work a older) e) (before k))
+        (subst (λ (w : Work). IsLed p a older (path_by p w)) (upto_all k (work a older) e) (before k))
 
     go : ((k : ℕ) → IsLed p a older (path_by p (upto_names k (work a older)))) → (own : Bool) → is_of a line ≡ own → (last : Bool) → is_end line ≡ last
         → IsLed p a (line ∷ older) (path_by p (upto_names k (if own then (if last then [] else (line, older) ∷ work a older) else work a older)))
     go before true e true f = inl refl
     go before true e false f = cut before (nat_le k (names_asked (work a older))) refl e f
-    go before false e last f = still_led p a line older (path_by p (upto_names k (work a older))) (not_own a line e) (before k)
+    go before false e last f = still_led p a line older (path_by p (upto_names k (work a older))) (other_ends a line e) (before k)
 
 -- ---- the law
 no_root : (g : Gfid) → (record { gfid = g; what = File }) ≡ root_entry → ⊥

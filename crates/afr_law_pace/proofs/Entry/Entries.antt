@@ -101,7 +101,7 @@ module _ (w : Walk) (k : IsWalk w) (chosen : BrickId) (a : Answer) (at : ℕ) wh
 
 -- ---- under the lock of the name
 -- a request keeps the bricks
-asked_shape : ShapesKept → (r : Register) (at b : ℕ) (asked : Request) (told : Told) → (noted_ask r at b asked told).shape ≡ r.shape
+pub asked_shape : ShapesKept → (r : Register) (at b : ℕ) (asked : Request) (told : Told) → (noted_ask r at b asked told).shape ≡ r.shape
 asked_shape shapes r at b asked told = shapes r (move.Ask (record { 0 = b }) (record { ref_ptr = (0, 0); now = asked })) told at
 
 module _ (shapes : ShapesKept) (w : Walk) (job : EntryJob) (t : TransactionProgress) (sound : Sound t) (chosen : BrickId) (a : Answer) (at : ℕ) where

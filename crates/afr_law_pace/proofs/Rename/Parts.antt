@@ -6,10 +6,7 @@ use Rattle.afr_base.specs.declared.ids.BrickId.{BrickId}
 use Rattle.afr_base.specs.declared.ids.Shape.{Shape}
 use Rattle.afr_client_transaction.proofs.Again.FollowsLemmas.{again_new}
 use Rattle.afr_discipline.specs.Laws.{ShapesKept}
-use Rattle.afr_discipline.specs.Notes.{noted_ask}
 use Rattle.afr_discipline.specs.Stands.{no_lines}
-use Rattle.afr_discipline.specs.declared.register.Move.TheVariants as move
-use Rattle.afr_discipline.specs.declared.register.Register.{Register}
 use Rattle.afr_client_entry.specs.Entry.{found_by, progress_begun, settled}
 use Rattle.afr_client_entry.specs.declared.refusal.Refusal.{Refusal}
 use Rattle.afr_client_entry.specs.declared.stage.Found.TheVariants.{Fits, Refused, Unread}
@@ -27,6 +24,7 @@ use Rattle.afr_client_entry.specs.Renames.Under.{found_after, progress_after}
 use Rattle.afr_client_entry.specs.declared.renaming.paths.Paths.{Paths}
 use Rattle.afr_law_pace.specs.Rename.Renames.{for_read, whole_part}
 use Rattle.afr_law_pace.specs.Entry.Entries.{AsksUnder, BeginsUnder}
+use Rattle.afr_law_pace.proofs.Entry.Entries.{asked_shape}
 use Rattle.afr_client_transaction.proofs.Kept.{sound_first}
 use Rattle.afr_client_transaction.specs.Between.{noted_read}
 use Rattle.afr_client_transaction.specs.Progress as transaction
@@ -34,10 +32,6 @@ use Rattle.afr_client_transaction.specs.Progress.{TransactionProgress, begun, fe
 use Rattle.afr_client_transaction.specs.Sound.{During, IsAsking, Sound}
 use Rattle.afr_client_transaction.specs.declared.stage.Stage.TheVariants.{Applying, Beginning, Closing, Locking, Looking, Posting, Preparing}
 use Rattle.afr_client_transaction.specs.declared.stage.Stage.{Stage}
-
--- a request keeps the bricks
-asked_shape : ShapesKept → (r : Register) (at b : ℕ) (asked : Request) (told : Told) → (noted_ask r at b asked told).shape ≡ r.shape
-asked_shape shapes r at b asked told = shapes r (move.Ask (record { 0 = b }) (record { ref_ptr = (0, 0); now = asked })) told at
 
 module _ (shapes : ShapesKept) (t : TransactionProgress) (why : Option Refusal) (asked : Request) (told : Told) (at : ℕ) where
   -- the name is noted, and the change goes on or not

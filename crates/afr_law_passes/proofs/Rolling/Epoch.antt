@@ -1,6 +1,5 @@
 -- In an epoch no post-op names the brick that is spared, so nothing that was clear ends in split-brain.
 use Rattle.std.proofs.Common.{◌≡◌, ◌⊎◌, ℕ, suc, ◌+◌, ◌-◌, ◌<◌, ◌≤◌, ◌==◌, ◌||◌, ◌++◌, Bool, true, false, inl, inr, refl, sym, ◌∙◌, subst, arith, List, [], ◌∷◌, Some, drop, length, if◌then◌else◌, true≢false}
-use Rattle.std.proofs.lemmas.Bool.{eqb-true}
 use Rattle.afr_base.specs.Bricks.{below, member}
 use Rattle.afr_base.specs.SetLemmas.{below_all, within_below}
 use Rattle.afr_base.specs.declared.ids.ActorId.{ActorId}
@@ -8,7 +7,7 @@ use Rattle.afr_base.specs.declared.ids.BrickId.{BrickId}
 use Rattle.afr_base.specs.declared.ids.Gfid.{Gfid}
 use Rattle.afr_base.specs.declared.ids.Kind.{Kind}
 use Rattle.afr_lines.specs.Log.{EachLine, before, from_oldest}
-use Rattle.afr_lines.specs.Work.{Work, is_end, is_killed, is_of, kills, work}
+use Rattle.afr_lines.specs.Work.{Work, is_end, is_killed, is_of, work}
 use Rattle.afr_lines.specs.declared.line.Line.{Line}
 use Rattle.afr_lines.specs.declared.line.Line.TheVariants.{Ask}
 use Rattle.afr_lines.specs.declared.request.Request.TheVariants.{Post}
@@ -21,18 +20,12 @@ use Rattle.afr_model.specs.Sums.{has_object}
 use Rattle.afr_law_tables.specs.Clear.{IsClear}
 use Rattle.afr_law_tables.specs.TableLaws.{copy_stays}
 use Rattle.afr_law_quiet.specs.Undisturbed.{IsEverywhere}
+use Rattle.afr_law_quiet.proofs.Lists.Free.{still_killed}
 use Rattle.afr_law_promises.specs.Missed.Missed.{AreAllMissed, IsMissed}
 use Rattle.afr_law_passes.specs.Rolling.Rolling.{AreIdle, FailsNowhere, IsEpoch, IsSpared, NamesMissers}
+use Rattle.afr_law.proofs.Model.Cells.{below_length}
 
 -- ---- places in a log
--- what stands at a position is below the length
-stands_below : (log : List Line) (k : ℕ) (line : Line) → from_oldest k log ≡ Some line → k < length log
-stands_below [] k line e = absurd (cc e)
-stands_below (x ∷ older) k line e = go (k == length older) refl e (λ r. stands_below older k line r)
-  where
-    go : (here : Bool) → (k == length older) ≡ here → (if here then Some x else from_oldest k older) ≡ Some line → (from_oldest k older ≡ Some line → k < length older) → k < suc (length older)
-    go true same f rest = (let is = eqb-true k (length older) same in omega (arith, is))
-    go false other f rest = (let low = rest f in omega (arith, low))
 
 -- a line since the start, with the lines between
 record IsSince (R : Line → List Line → Type 0) (d : ℕ) (start : List Line) (line : Line) : Type 0 where
@@ -41,7 +34,7 @@ record IsSince (R : Line → List Line → Type 0) (d : ℕ) (start : List Line)
   spared : IsSpared d mid
 
 line_since : (R : Line → List Line → Type 0) (d : ℕ) (newer start : List Line) (k : ℕ) (line : Line) → EachLine R (newer ++ start) → IsSpared d newer → length start ≤ k → from_oldest k (newer ++ start) ≡ Some line → IsSince R d start line
-line_since R d [] start k line each spare low e = absurd (let high = stands_below start k line e in omega (arith, low, high))
+line_since R d [] start k line each spare low e = absurd (let high = below_length start k line e in omega (arith, low, high))
 line_since R d (x ∷ newer) start k line each spare low e = go (k == length (newer ++ start)) e (λ f. line_since R d newer start k line each.1 spare.1 low f)
   where
     go : (here : Bool) → (if here then Some x else from_oldest k (newer ++ start)) ≡ Some line → (from_oldest k (newer ++ start) ≡ Some line → IsSince R d start line) → IsSince R d start line
@@ -75,14 +68,6 @@ began_later p g d a (x ∷ mid) start idle there cur now = go (is_of a x) (is_en
     go true false mine other = mine
     go false ends mine other = other
 
-killed_more : (a : ℕ) (mid start : List Line) → is_killed a start ≡ true → is_killed a (mid ++ start) ≡ true
-killed_more a [] start h = h
-killed_more a (x ∷ mid) start h = rw (killed_more a mid start h) (go (kills a x))
-  where
-    go : (b : Bool) → (b || true) ≡ true
-    go true = refl
-    go false = refl
-
 -- ---- the epoch
 nothing_newer : (newer start : List Line) → before (length start) (newer ++ start) ≡ start
 nothing_newer newer start = subst (λ (k : ℕ). drop k (newer ++ start) ≡ start) (sym (count newer)) (dropped newer)
@@ -111,7 +96,7 @@ module _ (p : Plan) (start : List Line) (idle : AreIdle p start) (g : Gfid) (d :
   unnamed mid a b attempt kind missed told spare facts = go (idle a.0 facts.0.1.0.actor)
     where
       go : (is_killed a.0 start ≡ true) ⊎ (work a.0 start ≡ []) → member missed d ≡ false
-      go (inl dead) = absurd (true≢false (sym (killed_more a.0 mid start dead) ∙ facts.0.1.0.alive))
+      go (inl dead) = absurd (true≢false (sym (still_killed a.0 mid start dead) ∙ facts.0.1.0.alive))
       go (inr none) = facts.1 d low (began_later p g d a.0 mid start none there (mid ++ start) (has_later p g d mid start there)) (work_spared a.0 d mid start none spare)
 
 -- in an epoch that began between works, what every brick had and was clear isn't in split-brain

@@ -1,12 +1,10 @@
 -- Epoch after epoch: at each rest all are between works, and what was everywhere and clear still is.
-use Rattle.std.proofs.Common.{◌≡◌, ℕ, ◌≤◌, ◌++◌, inl, inr, refl, sym, ap, ◌∙◌, subst, arith, List, [], ◌∷◌, Option, length}
-use Rattle.std.specs.Prelude.{is_some}
+use Rattle.std.proofs.Common.{◌≡◌, ℕ, ◌≤◌, ◌++◌, inl, inr, refl, sym, ap, ◌∙◌, subst, arith, List, [], ◌∷◌, length}
 use Rattle.afr_base.specs.Bricks.{below}
 use Rattle.afr_base.specs.declared.ids.BrickId.{BrickId}
 use Rattle.afr_base.specs.declared.ids.Gfid.{Gfid}
 use Rattle.afr_base.specs.declared.ids.Kind.{Kind}
 use Rattle.afr_base.specs.declared.ids.What.{What}
-use Rattle.afr_object.specs.Object.{Object}
 use Rattle.afr_lines.specs.Log.{EachLine, EveryPrefix}
 use Rattle.afr_lines.specs.Work.{work}
 use Rattle.afr_lines.specs.declared.line.Line.{Line}
@@ -30,6 +28,7 @@ use Rattle.afr_law_passes.specs.Rolling.Rolling.{AreIdle, HasRolled, Starts, Rol
 use Rattle.afr_law_passes.proofs.Rolling.Epoch.{Facts, both_facts, epoch_unsplit, has_later}
 use Rattle.afr_law_passes.proofs.Rolling.Idle.{idle_pass}
 use Rattle.afr_law_passes.proofs.Rolling.Named.{names_missers}
+use Rattle.afr_law_passes.proofs.Reached.Names.{everywhere_as}
 
 -- ---- what is known of a log
 record Given (p : Plan) (log : List Line) : Type 0 where
@@ -64,9 +63,6 @@ was_later p b (line ∷ newer) start = more (was_later p b newer start)
     more : WasTable p (newer ++ start) (holds p start b) → WasTable p (line ∷ (newer ++ start)) (holds p start b)
     more (Now c e) = Before (length (newer ++ start)) c (omega arith) (e ∙ rw (same_self (length (newer ++ start))) refl)
     more (Before k c low e) = Before k c (omega (arith, low)) (e ∙ rw (same_no k (length (newer ++ start)) low) refl)
-
-everywhere_as : (p : Plan) (log : List Line) (g : Gfid) (what : What) → IsEverywhereAs p log g what → IsEverywhere p log g
-everywhere_as p log g what h b low = ap (λ (o : Option Object). is_some o) (h b low).1
 
 -- ---- the lines of a pass
 abbrev Longer : List Line → List Line → Type 0

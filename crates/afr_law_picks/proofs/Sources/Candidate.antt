@@ -1,6 +1,7 @@
 -- The copies that the rule chose from are the good copies by the heal's first looks.
 use Rattle.std.proofs.Common.{◌≡◌, ◌∙◌, ℕ, ◌<◌, ◌≤◌, ◌&&◌, ◌||◌, ◌==◌, nat_lt, Bool, true, false, List, [], ◌∷◌, Option, None, Some, refl, sym, ap, arith, filter, map}
 use Rattle.std.proofs.lemmas.Bool.Decides.{nat_tests}
+use Rattle.std.proofs.lemmas.Bool.{or_right}
 use Rattle.afr_base.specs.Bricks.{all_five, below, member}
 use Rattle.afr_base.specs.declared.ids.Kind.{Kind}
 use Rattle.afr_choice.specs.Looks.{view_at}
@@ -8,11 +9,12 @@ use Rattle.afr_choice.specs.Verdict.{is_good}
 use Rattle.afr_choice.specs.VerdictLemmas.{member_good}
 use Rattle.afr_choice.specs.declared.looked.Looked.{Looked}
 use Rattle.afr_base.specs.declared.ids.Shape.{Shape}
+use Rattle.afr_base.proofs.TestLemmas.{same_test}
 use Rattle.afr_discipline.specs.Stands.{seen_as}
 use Rattle.afr_discipline.specs.Turns.{candidate}
 use Rattle.afr_discipline.specs.declared.register.Register.{Register}
 use Rattle.afr_heal.proofs.Parts.{both, pair}
-use Rattle.afr_law_heal.proofs.GoingLooks.{good_there, iff, in_five}
+use Rattle.afr_law_heal.proofs.GoingLooks.{good_there, in_five}
 use Rattle.afr_law_heal.proofs.OpeningVerdict.{good_seen}
 use Rattle.afr_law_heal.specs.Stages.{IsReached, ViewsAreWhole}
 use Rattle.afr_model.specs.Chosen as model
@@ -22,36 +24,20 @@ use Rattle.afr_model_moves.specs.Register.{good, len_of}
 use Rattle.afr_object.specs.declared.entry.View.{View}
 use Rattle.afr_rule.specs.declared.candidate.Candidate.{Candidate}
 use Rattle.afr_heal_machine.specs.Source.{HasSource, candidates_of}
+use Rattle.afr_heal_machine.proofs.ChoiceLemmas.{choose_same}
 use Rattle.afr_law_picks.specs.Sources.Sources.{numbers_of}
 
 -- ---- lists
 -- tests that agree on a list leave the same of it
 filter_same : (p q : ℕ → Bool) (xs : List ℕ) → ((x : ℕ) → member xs x ≡ true → p x ≡ q x) → filter p xs ≡ filter q xs
 filter_same p q [] h = refl
-filter_same p q (y ∷ ys) h = go (p y) refl (q y) refl (h y (grind (arith, nat_tests))) (filter_same p q ys (λ x m. h x (later (y == x) (member ys x) m)))
+filter_same p q (y ∷ ys) h = go (p y) refl (q y) refl (h y (grind (arith, nat_tests))) (filter_same p q ys (λ x m. h x (or_right (y == x) (member ys x) m)))
   where
-    later : (a b : Bool) → b ≡ true → (a || b) ≡ true
-    later true b e = refl
-    later false b e = e
-
     go : (a : Bool) → p y ≡ a → (c : Bool) → q y ≡ c → p y ≡ q y → filter p ys ≡ filter q ys → filter p (y ∷ ys) ≡ filter q (y ∷ ys)
     go true e true f h ih = rw (e, f) (ap (λ (zs : List ℕ). y ∷ zs) ih)
     go false e false f h ih = rw (e, f) ih
     go true e false f h ih = absurd (cc (sym e ∙ h ∙ f))
     go false e true f h ih = absurd (cc (sym e ∙ h ∙ f))
-
--- those below n that pass one test are those below n that pass another, where both agree there
-choose_same : (n : ℕ) (p q : ℕ → Bool) → ((x : ℕ) → x < n → q x ≡ p x) → (xs : List ℕ) → filter (λ x. nat_lt x n && p x) xs ≡ filter q (filter (λ b. nat_lt b n) xs)
-choose_same n p q h [] = refl
-choose_same n p q h (x ∷ xs) = go (nat_lt x n) refl (p x) refl (choose_same n p q h xs)
-  where
-    low : nat_lt x n ≡ true → x < n
-    low e = grind (arith, nat_tests, e)
-
-    go : (a : Bool) → nat_lt x n ≡ a → (c : Bool) → p x ≡ c → filter (λ x. nat_lt x n && p x) xs ≡ filter q (filter (λ b. nat_lt b n) xs) → filter (λ x. nat_lt x n && p x) (x ∷ xs) ≡ filter q (filter (λ b. nat_lt b n) (x ∷ xs))
-    go false e c f ih = rw e ih
-    go true e true f ih = let g : q x ≡ true = h x (low e) ∙ f in rw (e, f, g) (ap (λ (ys : List ℕ). x ∷ ys) ih)
-    go true e false f ih = let g : q x ≡ false = h x (low e) ∙ f in rw (e, f, g) ih
 
 below_is : (n : ℕ) → filter (λ b. nat_lt b n) all_five ≡ below n
 unfolding below
@@ -77,7 +63,7 @@ module _ (shape : Shape) (kind : Kind) (seen : Looked) (few : shape.n ≤ 5) (lo
   is_source x = good shape.n (keeps_in shape) kind (λ x. view_at x seen) x
 
   good_same : (x : ℕ) → x < 5 → is_good shape seen kind x ≡ (nat_lt x shape.n && is_source x)
-  good_same x small = iff (is_good shape seen kind x) (nat_lt x shape.n && is_source x) there here
+  good_same x small = same_test (is_good shape seen kind x) (nat_lt x shape.n && is_source x) there here
     where
       within : x < shape.n → nat_lt x shape.n ≡ true
       within l = grind (arith, nat_tests, l)

@@ -1,12 +1,12 @@
 -- One line of a healer keeps its running heal to its source.
 use Rattle.std.proofs.Common.{◌≡◌, ◌∙◌, ℕ, ◌==◌, Bool, true, false, List, [], ◌∷◌, Option, None, Some, refl, sym, ap, subst, arith, length}
-use Rattle.std.proofs.lemmas.Bool.Decides.{nat_tests}
 use Rattle.afr_base.specs.declared.ids.ActorId.{ActorId}
 use Rattle.afr_base.specs.declared.ids.BrickId.{BrickId}
 use Rattle.afr_base.specs.declared.ids.Gfid.{Gfid}
 use Rattle.afr_base.specs.declared.ids.Kind.{Kind}
 use Rattle.afr_base.specs.declared.ids.Kind.TheVariants.{Attrs, Bytes, Names}
 use Rattle.afr_base.specs.declared.ids.Shape.{Shape}
+use Rattle.afr_base.proofs.TestLemmas.{same_number}
 use Rattle.afr_heal_round.specs.List.Round.{next_due}
 use Rattle.afr_discipline.specs.Stands.{seen_as}
 use Rattle.afr_discipline.specs.declared.register.Register.{Register}
@@ -50,9 +50,6 @@ use Rattle.afr_law_picks.proofs.Sources.Work.{no_border}
 use Rattle.afr_law_picks.specs.Sources.Chosen.{HealsFrom, RunsFrom}
 use Rattle.afr_law_picks.specs.Sources.Laws.{LineKeepsSource, SourceKept}
 use Rattle.afr_law_picks.specs.Sources.Sources.{has_chosen, picked_by, picked_source, picks_of, source_at, source_in}
-
-self : (n : ℕ) → (n == n) ≡ true
-self n = grind (arith, nat_tests)
 
 -- ---- no line of a next heal was written
 unbegun : (picks : Picks) (shape : Shape) (kind : Kind) → HealsFrom picks shape kind None []
@@ -172,7 +169,7 @@ module _ {F : Type 0} (calls : Calls F) (choose : F) (can : CanStepNext) (rounds
           subst (λ (line : HealNext). heal.CanHear line s.given.answer) e (subst (λ (stage : RoundStage). CanHearAt stage s.given.answer) stage_is heard)
 
       border : heal_by (work a.0 (line ∷ log)) ≡ (line, log) ∷ w
-      border = subst (λ (l : Line). heal_by (work a.0 (l ∷ log)) ≡ (l, log) ∷ w) (sym s.is_line) (rw (self a.0, no_border a b asked (told_by s.given.answer) s.given.took (asks_no_list h w b.0 asked stage e)) refl)
+      border = subst (λ (l : Line). heal_by (work a.0 (l ∷ log)) ≡ (l, log) ∷ w) (sym s.is_line) (rw (same_number a.0, no_border a b asked (told_by s.given.answer) s.given.took (asks_no_list h w b.0 asked stage e)) refl)
 
       abbrev now : Rounding
       now = record m { stage = Healing z }
@@ -218,7 +215,7 @@ module _ {F : Type 0} (calls : Calls F) (choose : F) (can : CanStepNext) (rounds
       parted = heal.begun (length log) h
 
       part_border : heal_by (work a.0 (line ∷ log)) ≡ (line, log) ∷ w
-      part_border = subst (λ (l : Line). heal_by (work a.0 (l ∷ log)) ≡ (l, log) ∷ w) (sym s.is_line) (rw (self a.0) refl)
+      part_border = subst (λ (l : Line). heal_by (work a.0 (l ∷ log)) ≡ (l, log) ∷ w) (sym s.is_line) (rw (same_number a.0) refl)
 
       part_is : y.round ≡ Some (rounding.begun (length log) m)
       part_is = ap (λ (y : Healer). y.round) s.becomes
@@ -245,7 +242,7 @@ module _ {F : Type 0} (calls : Calls F) (choose : F) (can : CanStepNext) (rounds
     pub end_keeps : (said : HealReply) → IsHealed a h.gfid h.kind said x y m servers new line → Kept
     end_keeps said s = record {
       picked = subst (λ (l : Line). SourcePicked picks p l log) (sym s.is_line) (ended_picked picks p a h.gfid h.kind said log (picked_source x) (runs h.gfid h.kind here.due));
-      runs = none_runs picks p a.0 (line ∷ log) (picked_source y) (ap picked_source s.becomes ∙ due_none m.shape (next_due m.round)) (subst (λ (l : Line). heal_by (work a.0 (l ∷ log)) ≡ []) (sym s.is_line) (rw (self a.0) refl));
+      runs = none_runs picks p a.0 (line ∷ log) (picked_source y) (ap picked_source s.becomes ∙ due_none m.shape (next_due m.round)) (subst (λ (l : Line). heal_by (work a.0 (l ∷ log)) ≡ []) (sym s.is_line) (rw (same_number a.0) refl));
     }
 
     pub heal_keeps : (line_next : HealNext) → coming h ≡ line_next → SteppedBy (IsFed calls choose) a (length log) x y m servers new line (line_of h line_next) → Kept
@@ -260,13 +257,13 @@ module _ {F : Type 0} (calls : Calls F) (choose : F) (can : CanStepNext) (rounds
       record {
         picked = subst (λ (l : Line). SourcePicked picks p l log) (sym s.is_line) tt;
         runs = none_runs picks p a.0 (line ∷ log) (picked_source y) (ap picked_source s.becomes ∙ ap (λ (m : Rounding). source_in m.stage) fed ∙ indexed_none heals s.given.answer m)
-            (subst (λ (l : Line). heal_by (work a.0 (l ∷ log)) ≡ []) (sym s.is_line) (rw (self a.0) refl));
+            (subst (λ (l : Line). heal_by (work a.0 (l ∷ log)) ≡ []) (sym s.is_line) (rw (same_number a.0) refl));
       }
 
   round_ends : (said : Reply) → IsEnded a said x y servers new line → Kept
   round_ends said s = record {
     picked = subst (λ (l : Line). SourcePicked picks p l log) (sym s.is_line) tt;
-    runs = none_runs picks p a.0 (line ∷ log) (picked_source y) (ap picked_source s.becomes) (subst (λ (l : Line). heal_by (work a.0 (l ∷ log)) ≡ []) (sym s.is_line) (rw (self a.0) refl));
+    runs = none_runs picks p a.0 (line ∷ log) (picked_source y) (ap picked_source s.becomes) (subst (λ (l : Line). heal_by (work a.0 (l ∷ log)) ≡ []) (sym s.is_line) (rw (same_number a.0) refl));
   }
 
   pub round_keeps : (m : Rounding) → x.round ≡ Some m → SteppedBy (IsFed calls choose) a (length log) x y m servers new line (next_of m) → Kept

@@ -1,5 +1,6 @@
 -- What an answer leaves of a heal's register: whether it is broken, its part and its step; and how the heal ends.
 use Rattle.std.proofs.Common.{◌≡◌, ℕ, ◌||◌, Bool, true, false, refl, if◌then◌else◌}
+use Rattle.std.proofs.lemmas.Bool.{or_left}
 use Rattle.afr_base.specs.declared.ids.Gfid.{Gfid}
 use Rattle.afr_base.specs.declared.ids.Kind.{Kind}
 use Rattle.afr_base.specs.declared.ids.Shape.{Shape}
@@ -22,9 +23,6 @@ use Rattle.afr_heal_machine.specs.declared.outcome.HealOutcome.TheVariants.{Noth
 use Rattle.afr_law_picks.specs.Sources.Sources.{is_later}
 
 -- ---- the register
-or_left : (x y : Bool) → x ≡ true → (x || y) ≡ true
-or_left true y e = refl
-or_left false y e = absurd (cc e)
 
 within : (P : Register → Type 0) (c : Bool) (x y : Register) → c ≡ true → P x → P (if c then x else y)
 within P true x y e k = k

@@ -2,6 +2,7 @@
 use Rattle.std.proofs.Common.{◌≡◌, ℕ, ◌-◌, ◌≤◌, ◌==◌, ◌||◌, ◌&&◌, ◌⊎◌, inl, inr, not, nat_le, nat_lt, Bool, true, false, refl, sym, ap, ◌∙◌, subst, arith, List, [], ◌∷◌, ◌++◌, Option, Some, None, length, if◌then◌else◌, true≢false, eq-eqb}
 use Rattle.std.specs.Option.{option_map}
 use Rattle.std.proofs.lemmas.Bool.Decides.{nat_tests}
+use Rattle.std.proofs.lemmas.Bool.{or_right, or_from}
 use Rattle.afr_base.specs.Bricks.{added}
 use Rattle.afr_base.specs.Majority.{is_majority}
 use Rattle.afr_base.specs.SetLemmas.{majority_some}
@@ -49,13 +50,6 @@ AreLines p c [] = Unit {0}
 AreLines p c (x ∷ w) = IsOf p c x.0 w × KeepsToCommand p c x.0 (length x.1) w × (is_end x.0 ≡ false) × AreLines p c w
 
 -- ---- tests
-or_none : (a b : Bool) → a ≡ false → b ≡ false → (a || b) ≡ false
-or_none true b e f = e
-or_none false b e f = f
-
-or_before : (a b : Bool) → b ≡ true → (a || b) ≡ true
-or_before true b e = refl
-or_before false b e = e
 
 or_first : (a b : Option Reply) → or_else a b ≡ None → a ≡ None
 or_first None b e = refl
@@ -109,7 +103,7 @@ unlocked g (x ∷ v) f = each (locks_any x.0) (has locks_any v) refl refl f (λ 
   where
     each : (now before : Bool) → locks_any x.0 ≡ now → has locks_any v ≡ before → (now || before) ≡ false → (has locks_any v ≡ false → has (locks g) v ≡ false) → has (locks g) (x ∷ v) ≡ false
     each true before h i f rest = absurd (true≢false f)
-    each false before h i f rest = or_none (locks g x.0) (has (locks g) v) (locks_no g x.0 h) (rest (i ∙ f))
+    each false before h i f rest = or_from (locks g x.0) (has (locks g) v) (locks_no g x.0 h) (rest (i ∙ f))
 
 -- where nothing refuses a change of a name, its area was locked
 locked_where : (p : Plan) (c : Command) (object : Entry) (area : Area) (w : Work) → is_on_name c ≡ true → refusal p c w ≡ None → place_by p c w ≡ At (steps_of c) object → area_on object.gfid c ≡ Some area → has (locks (object_of_area area)) w ≡ true
@@ -254,8 +248,8 @@ module _ (p : Plan) (from to : List NameId) where
 
   of_walk : (x : Line × List Line) (w : Work) → nat_le (length from) (names_asked w) ≡ false → is_again x.0 w ≡ false → IsAbout p (command.Stat from) x.0 (the_walk from w) → KeepsTo p (command.Stat from) x.0 (length x.1) (the_walk from w) → Parts w → Parts (x ∷ w)
   of_walk x w early first about keeps k = record {
-    walked = ap (has begins_attempt) walks ∙ or_none (begins_attempt x.0) (has begins_attempt (the_walk from w)) (walk_begins x.0 (length x.1) (the_walk from w) keeps) k.walked;
-    free = ap (has locks_any) walks ∙ or_none (locks_any x.0) (has locks_any (the_walk from w)) (walk_locks x.0 (the_walk from w) about) k.free;
+    walked = ap (has begins_attempt) walks ∙ or_from (begins_attempt x.0) (has begins_attempt (the_walk from w)) (walk_begins x.0 (length x.1) (the_walk from w) keeps) k.walked;
+    free = ap (has locks_any) walks ∙ or_from (locks_any x.0) (has locks_any (the_walk from w)) (walk_locks x.0 (the_walk from w) about) k.free;
     about = subst (AreAbout p (command.Create to)) (sym none) tt;
     found = λ h. absurd (true≢false (sym h ∙ ap (has begins_attempt) none));
     link = λ change h. absurd (let e : None ≡ Some change = sym (ap change_by none) ∙ h in cc e);
@@ -298,7 +292,7 @@ module _ (p : Plan) (from to : List NameId) where
         file = l.file;
         name = l.name;
         is = l.is;
-        locked = ap (has (locks (object_of change))) grows ∙ or_before (locks (object_of change) x.0) (has (locks (object_of change)) (the_make from w)) l.locked;
+        locked = ap (has (locks (object_of change))) grows ∙ or_right (locks (object_of change) x.0) (has (locks (object_of change)) (the_make from w)) l.locked;
       }
 
   of_removal : (x : Line × List Line) (w : Work) → is_again x.0 w ≡ true → IsMade p from w → IsAbout p (command.Unlink from) x.0 (the_removal from w) → KeepsTo p (command.Unlink from) x.0 (length x.1) (the_removal from w) → Parts w → Parts (x ∷ w)
@@ -310,7 +304,7 @@ module _ (p : Plan) (from to : List NameId) where
     link = λ change h. subst (IsLink change) (sym kept) (k.link change (sym (ap change_by kept) ∙ h));
     removal = λ change h e. (
         let before : has (locks (object_of change)) (second_part w) ≡ true = removal_line x.0 (length x.1) w about keeps k.free change (sym (ap (has begins_attempt) second) ∙ h) (sym (ap change_by grows) ∙ e) (k.removal change) in
-        ap (has (locks (object_of change))) second ∙ or_before (locks (object_of change) x.0) (has (locks (object_of change)) (second_part w)) before
+        ap (has (locks (object_of change))) second ∙ or_right (locks (object_of change) x.0) (has (locks (object_of change)) (second_part w)) before
         );
     made = inr (subst (λ (v : Work). is_majority p.shape.n (among posted v) ≡ true) (sym kept) made);
     cut = ap (λ (v : Work). v ++ the_walk from (x ∷ w)) kept ∙ ap (λ (v : Work). the_make from w ++ v) stays ∙ k.cut ∙ sym (first_stays x w again);

@@ -4,6 +4,7 @@ use Rattle.afr_base.specs.Bricks.{added_if, member}
 use Rattle.afr_base.specs.SetLemmas.{member_added}
 use Rattle.afr_base.specs.declared.ids.ActorId.{ActorId}
 use Rattle.afr_base.specs.declared.ids.BrickId.{BrickId}
+use Rattle.afr_base.proofs.TestLemmas.{neither_second}
 use Rattle.afr_lines.specs.declared.fault.Fault.{Fault}
 use Rattle.afr_lines.specs.declared.fault.Fault.TheVariants.{Fail, Lost}
 use Rattle.afr_object.specs.Tables.{copy_at}
@@ -126,11 +127,7 @@ Did asked failed did b = member asked b ≡ true → member failed b ≡ false �
 -- one request more
 unadded : (fault : Bool) (x b : ℕ) (failed : List ℕ) → member (added_if fault x failed) b ≡ false → member failed b ≡ false
 unadded false x b failed h = h
-unadded true x b failed h = by (x == b) (member failed b) (sym (member_added x failed b) ∙ h)
-  where
-    by : (same was : Bool) → (same || was) ≡ false → was ≡ false
-    by true was e = absurd (true≢false e)
-    by false was e = e
+unadded true x b failed h = neither_second (x == b) (member failed b) (sym (member_added x failed b) ∙ h)
 
 asked_too : (done fault : Bool) (x b : ℕ) (asked failed did : List ℕ) → (done ≡ false → fault ≡ true) → Did asked failed did b → Did (added_if true x asked) (added_if fault x failed) (added_if done x did) b
 asked_too true fault x b asked failed did fits rest here none = member_added x did b ∙ by (x == b) (member asked b) (member did b) (sym (member_added x asked b) ∙ here) (λ k. rest k (unadded fault x b failed none))

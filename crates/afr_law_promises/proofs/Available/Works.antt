@@ -1,5 +1,6 @@
 -- A work of a command with one path, whose change enough bricks bore, answers ok.
 use Rattle.std.proofs.Common.{◌≡◌, ℕ, ◌==◌, ◌&&◌, ◌||◌, not, Bool, true, false, refl, sym, ap, ◌∙◌, subst, List, [], ◌∷◌, None, Some, length, if◌then◌else◌, true≢false}
+use Rattle.std.proofs.lemmas.Bool.{and_from, not-true}
 use Rattle.afr_base.specs.Bricks.{IsIn, and_left, and_right, is_nothing, lowest, member, minus}
 use Rattle.afr_base.specs.Majority.{is_majority}
 use Rattle.afr_base.specs.SetLemmas.{lowest_left, majority_grows, member_minus, some_member}
@@ -46,20 +47,16 @@ DoKeep p c (x ∷ w) = KeepsTo p c x.0 (length x.1) w × DoKeep p c w
 -- ---- sets
 -- what suffices does so with more bricks
 suffices_grows : (shape : Shape) (kind : Kind) (looked : Looked) (s t : List ℕ) → IsIn s t → suffices shape kind looked s ≡ true → suffices shape kind looked t ≡ true
-suffices_grows shape kind looked s t inside h = both (is_majority shape.n t) (not (is_nothing (minus g (minus g t)))) (majority_grows shape.n s t inside (and_left (is_majority shape.n s) (not (is_nothing (minus g (minus g s)))) h)) (ap not (some_member (minus g (minus g t)) b there))
+suffices_grows shape kind looked s t inside h = and_from (is_majority shape.n t) (not (is_nothing (minus g (minus g t)))) (majority_grows shape.n s t inside (and_left (is_majority shape.n s) (not (is_nothing (minus g (minus g s)))) h)) (ap not (some_member (minus g (minus g t)) b there))
   where
     g : List ℕ
     g = good_copies shape looked kind
-
-    none : (x : Bool) → not x ≡ true → x ≡ false
-    none true e = absurd (true≢false (sym e))
-    none false e = refl
 
     b : ℕ
     b = lowest (minus g (minus g s))
 
     parts : (member (minus g s) b ≡ false) × (member g b ≡ true)
-    parts = lowest_left g (minus g s) (none (is_nothing (minus g (minus g s))) (and_right (is_majority shape.n s) (not (is_nothing (minus g (minus g s)))) h))
+    parts = lowest_left g (minus g s) (not-true (is_nothing (minus g (minus g s))) (and_right (is_majority shape.n s) (not (is_nothing (minus g (minus g s)))) h))
 
     here : member s b ≡ true
     here = by (member s b) (member g b) parts.1 (sym (member_minus g s b) ∙ parts.0)
@@ -74,11 +71,6 @@ suffices_grows shape kind looked s t inside h = both (is_majority shape.n t) (no
 
     there : member (minus g (minus g t)) b ≡ true
     there = member_minus g (minus g t) b ∙ rw (gone, parts.1) refl
-
-    both : (x y : Bool) → x ≡ true → y ≡ true → (x && y) ≡ true
-    both true true e f = refl
-    both true false e f = f
-    both false y e f = e
 
 -- ---- lines of the attempt
 module _ (p : Plan) (c : Command) where

@@ -28,12 +28,10 @@ use Rattle.afr_law_promises.specs.Missed.ByPosition.{CauseSince}
 use Rattle.afr_law_promises.specs.Missed.Missed.{AreAllMissed, HaveCausesSince, IsCauseSince, IsMissed, ModelExactMissed, ModelHaveCausesSince}
 use Rattle.afr_law_promises.proofs.Missed.Posted.{cause_since}
 use Rattle.afr_law_promises.proofs.Missed.Views.{split_accused}
+use Rattle.afr_law_quiet.proofs.Moves.Unmoved.{not_below}
 
 none_is : (m : ℕ) → nat_lt 0 m ≡ false → m ≡ 0
 none_is m e = grind (arith, nat_tests)
-
-pub zero_no : (m : ℕ) → m ≡ 0 → nat_lt 0 m ≡ false
-zero_no m e = grind (arith, nat_tests)
 
 -- what holds of a log and of each that is shorter by a line holds of its first lines
 drop_keeps : (P : List Line → Type 0) → ((line : Line) (older : List Line) → P (line ∷ older) → P older) → (k : ℕ) (log : List Line) → P log → P (drop k log)
@@ -101,7 +99,7 @@ missed_now p log five short honest lawful causes since among within g kind clear
     go w = record {
       brick = w.0;
       inside = w.1;
-      cause = causes since w.0 c g kind (zero_no (pending_of p (before since log) w.0 c g kind) ((clear w.0 (within w.0 w.1)).1 c (within c inside))) w.2;
+      cause = causes since w.0 c g kind (not_below (pending_of p (before since log) w.0 c g kind) ((clear w.0 (within w.0 w.1)).1 c (within c inside))) w.2;
     }
 
 all_missed : (p : Plan) (log : List Line) → p.shape.n ≤ 5 → length log ≤ 4000000 → IsHonestLog p log → IsLawfulExactly p log → EveryPrefix (HaveCausesSince p) log → EveryPrefix (AreAllMissed p) log

@@ -1,8 +1,7 @@
 -- The copy that was good by the looks of the last attempt: who accuses it among those that did this attempt shows an overlap.
 use Rattle.std.proofs.Common.{◌≡◌, ℕ, zero, suc, ◌<◌, ◌≤◌, Bool, true, false, ◌&&◌, ◌||◌, ◌⊎◌, not, inl, inr, refl, sym, ◌∙◌, ap, subst, arith, true≢false, List}
 use Rattle.std.specs.Prelude.{None, Option, Some, slice_index, ◌==◌}
-use Rattle.std.proofs.lemmas.Bool.{cases_eq, cases_lt, eqb-true}
-use Rattle.std.proofs.lemmas.Bool.Decides.{nat_tests}
+use Rattle.std.proofs.lemmas.Bool.{cases_eq, cases_lt, eqb-true, and_parts}
 use Rattle.afr_base.specs.Bricks.{member}
 use Rattle.afr_base.specs.Kinds.{same_kind}
 use Rattle.afr_base.specs.Majority.{IsMajority}
@@ -36,6 +35,7 @@ use Rattle.afr_law_promises.specs.Missed.ByPosition.{CauseSince}
 use Rattle.afr_law_promises.proofs.Missed.Posted.{cause_since}
 use Rattle.afr_law_promises.proofs.Whole.Along.{stands_now}
 use Rattle.afr_law_promises.proofs.Whole.Looks.{IsOneWork, SeenHere, StandsOf}
+use Rattle.afr_law_quiet.proofs.Moves.Seen.{none_against}
 
 -- ---- post-ops
 -- a post-op on the object and kind that was carried out
@@ -65,12 +65,8 @@ post_line g kind _ e = absurd (true≢false (sym e))
 post_of_line : (j g : ℕ) (kind : Kind) (line : Option Line) → is_post_of j g kind line ≡ true → (w : PostLine g kind line) × (w.q ≡ j)
 unfolding post_line
 post_of_line j g kind (Some (Ask a y (Post q h k missed) told took)) e =
-    let both = two_parts (q == j) (took && (h.0 == g) && same_kind k kind) e in
+    let both = and_parts (q == j) (took && (h.0 == g) && same_kind k kind) e in
     (post_line g kind (Some (Ask a y (Post q h k missed) told took)) both.1, eqb-true q j both.0)
-  where
-    two_parts : (x y : Bool) → (x && y) ≡ true → (x ≡ true) × (y ≡ true)
-    two_parts true y e = (refl, e)
-    two_parts false y e = absurd (true≢false (sym e))
 post_of_line j g kind _ e = absurd (true≢false (sym e))
 
 post_tests : (a b q g : ℕ) (kind : Kind) (missed : List ℕ) (told : Told) (line : Option Line) → line ≡ Some (ask_by a b (post_on q g kind missed) told true) → (is_post g kind line ≡ true) × (is_post_of q g kind line ≡ true)
@@ -113,10 +109,7 @@ same_object (Some area) g h kind plane on = eqb-true h (area_object area) on ∙
 -- a holder's view that accuses nobody
 shown_none : (kind : Kind) (s : ℕ) (seen : Option View) → not (is_none seen) ≡ true → not (accuses kind seen s) ≡ true → (view : View) × (seen ≡ Some view) × (slice_index (view_marks view kind).pending s ≡ 0)
 shown_none kind s None there none = absurd (true≢false (sym there))
-shown_none kind s (Some view) there none = (view, refl, zero_is (slice_index (view_marks view kind).pending s) none)
-  where
-    zero_is : (m : ℕ) → not (not (m == 0)) ≡ true → m ≡ 0
-    zero_is m e = grind (arith, nat_tests)
+shown_none kind s (Some view) there none = (view, refl, none_against (slice_index (view_marks view kind).pending s) none)
 
 abbrev as_actor : ℕ → ActorId
 as_actor a = record { 0 = a }

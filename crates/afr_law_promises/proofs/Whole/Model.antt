@@ -3,11 +3,11 @@ use Rattle.std.proofs.Common.{◌≡◌, ℕ, ◌≤◌, ◌&&◌, ◌⊎◌, Bo
 use Rattle.std.specs.Prelude.{Option, nat_lt}
 use Rattle.std.specs.List.{list_any}
 use Rattle.std.proofs.lemmas.Bool.Decides.{nat_tests}
-use Rattle.afr_law_promises.proofs.Missed.Model.{zero_no}
 use Rattle.afr_base.specs.Bricks.{member}
 use Rattle.afr_base.specs.Keeping.{keeps}
 use Rattle.afr_base.specs.declared.ids.Gfid.{Gfid}
 use Rattle.afr_base.specs.declared.ids.Kind.{Kind}
+use Rattle.afr_base.proofs.RisingLemmas.{has_first}
 use Rattle.afr_lines.specs.Log.{EveryPrefix}
 use Rattle.afr_lines.specs.declared.line.Line.{Line}
 use Rattle.afr_plan.specs.declared.plan.Plan.{Plan}
@@ -30,15 +30,13 @@ use Rattle.afr_law.proofs.Model.Sums.{holds_is, pending_is}
 use Rattle.afr_law_promises.proofs.Sets.{in_listed, listed, listed_most, listed_parts, listed_within}
 use Rattle.afr_law_promises.specs.Whole.Whole.{AreOverlapping, AreUnaccused, AreWhole, HasWholeCopy, ModelExactWhole}
 use Rattle.afr_law_promises.proofs.Whole.Chosen.{OverlapAt, WholeAt, whole_at}
+use Rattle.afr_law_quiet.proofs.Moves.Unmoved.{not_below}
 
 -- nobody of these passes
 none_of : (test : ℕ → Bool) (xs : List ℕ) → ((x : ℕ) → member xs x ≡ true → test x ≡ false) → list_any test xs ≡ false
 none_of test [] all = refl
-none_of test (x ∷ xs) all = rw (all x (here x xs)) (none_of test xs (λ y inside. all y (more x y xs inside)))
+none_of test (x ∷ xs) all = rw (all x (has_first x xs)) (none_of test xs (λ y inside. all y (more x y xs inside)))
   where
-    here : (x : ℕ) (xs : List ℕ) → member (x ∷ xs) x ≡ true
-    here x xs = grind (arith, nat_tests)
-
     more : (x y : ℕ) (xs : List ℕ) → member xs y ≡ true → member (x ∷ xs) y ≡ true
     more x y xs inside = grind (arith, nat_tests)
 
@@ -65,7 +63,7 @@ module _ (p : Plan) (n : ℕ) (L : Log) (five : p.shape.n ≤ 5) (older : List L
   }
 
   whole_is : IsSafe p older → ((x c : ℕ) → pending (start_of p n) L (length older) x c g.0 kind ≡ 0) ⊎ WholeAt p.shape.n (start_of p n) L (length older) g.0 kind → AreUnaccused p older g kind ⊎ HasWholeCopy p older g kind
-  whole_is safe (inl none) = inl (λ x c. zero_no (pending_of p older x c g kind) (sym (pending_is p n L x c g kind older h lawful) ∙ none x c))
+  whole_is safe (inl none) = inl (λ x c. not_below (pending_of p older x c g kind) (sym (pending_is p n L x c g kind older h lawful) ∙ none x c))
   whole_is safe (inr w) = inr (record {
     brick = w.s;
     bricks = bricks;
@@ -85,7 +83,7 @@ module _ (p : Plan) (n : ℕ) (L : Log) (five : p.shape.n ≤ 5) (older : List L
       blameless : list_any (λ x. accuses p older g kind x w.s) bricks ≡ false
       blameless = none_of (λ x. accuses p older g kind x w.s) bricks (λ x inside. (
           let parts = listed_parts p.shape.n w.among x inside in
-          zero_no (pending_of p older x w.s g kind) (sym (pending_is p n L x w.s g kind older h lawful) ∙ w.unblamed x parts.0 parts.1)
+          not_below (pending_of p older x w.s g kind) (sym (pending_is p n L x w.s g kind older h lawful) ∙ w.unblamed x parts.0 parts.1)
           ))
 
       good : is_good_copy p older bricks g kind w.s ≡ true

@@ -22,7 +22,7 @@ use Rattle.afr_model.specs.Rounds.{heal_due}
 use Rattle.afr_model.specs.Showing.{among}
 use Rattle.afr_model_moves.specs.Note.{breaks, left_in_heal, next_part, stops_at}
 use Rattle.afr_model_moves.specs.Past.{is_gone}
-use Rattle.afr_model_moves.specs.Register.{Exact, Finish, HealPart, Opening, Piece, Settles, Step, is_finish, rank}
+use Rattle.afr_model_moves.specs.Register.{Exact, Finish, HealPart, Opening, Piece, Settles, Step, is_finish, rank, HealPres, Mends, Reads}
 use Rattle.afr_model_moves.specs.Rules as weak
 use Rattle.afr_model_moves.specs.Rules.{Register}
 use Rattle.afr_model_moves.specs.Steps.{may_heal}
@@ -34,7 +34,6 @@ use Rattle.afr_law.proofs.Heals.Conditions.{Resumes, Starts, Waits, WorkPlace, a
 use Rattle.afr_law.proofs.Heals.Holds.{is_last, settles_last}
 use Rattle.afr_law_quiet.proofs.Copies.Looked.{gfid}
 use Rattle.afr_law_quiet.proofs.Copies.Told.{Hears}
-use Rattle.afr_model_moves.specs.Register.{HealPres, Mends, Reads}
 
 -- a brick that settled did so in the last part of a heal that isn't broken
 abbrev pub HasEnded : Lines → Bool → Step → HealPart → Kind → Type 0

@@ -1,7 +1,7 @@
 -- A settled heal of an undisturbed round leaves its object repaired, to the round's end.
 use Rattle.std.proofs.Common.{ap, arith, false, inl, inr, not, refl, subst, sym, Bool, true, true≢false, ℕ, suc, ◌<◌, ◌∙◌, ◌≡◌, ◌≤◌, ◌⊎◌, [], ◌∷◌, length}
 use Rattle.std.specs.Prelude.{List as Seq, None, Option, Some, if◌then◌else◌, nat_lt, slice_get}
-use Rattle.std.proofs.lemmas.Bool.{cases_lt, eqb-true}
+use Rattle.std.proofs.lemmas.Bool.{cases_lt, eqb-true, not-false}
 use Rattle.std.proofs.lemmas.Bool.Decides.{nat_tests}
 use Rattle.afr_base.specs.Bricks.{below, is_nothing, lowest, member, minus}
 use Rattle.afr_base.specs.Keeping.{keeps}
@@ -77,14 +77,10 @@ reply_settled None false false false false views false (Some x) e = absurd (cc e
 some_settled : (p : Plan) (g : Gfid) (kind : Kind) (w : Lines) → heal_reply p.shape g kind w ≡ Some healed.Settled → (z : ℕ) × (member (among settled_at w) z ≡ true)
 some_settled p g kind w e = (
     let k = reply_settled (busy_by w) (not (is_majority p.shape.n (minus (below p.shape.n) (first_by w).missing))) (not (is_majority p.shape.n (holders_of (first_by w).looked))) (is_clean kind (first_by w).looked) (is_nothing (good_copies p.shape (first_by w).looked kind)) (first_by w).looked.views (is_settled w) (moved_by p.shape g kind w) e in
-    let many : is_majority p.shape.n (holders_in w) ≡ true = sure (is_majority p.shape.n (holders_in w)) k.0 in
+    let many : is_majority p.shape.n (holders_in w) ≡ true = not-false (is_majority p.shape.n (holders_in w)) k.0 in
     let there = (lowest_left (holders_in w) [] (majority_some p.shape.n (holders_in w) many)).1 in
     (lowest (minus (holders_in w) []), none_left (holders_in w) (among settled_at w) k.1 (lowest (minus (holders_in w) [])) there)
     )
-  where
-    sure : (b : Bool) → not b ≡ false → b ≡ true
-    sure true h = refl
-    sure false h = absurd (true≢false h)
 
 -- ---- moments of a log
 

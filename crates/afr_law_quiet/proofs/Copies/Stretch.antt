@@ -59,23 +59,20 @@ pub stretch : (a : ℕ) (log : List Line) → length (log_before (work a log) lo
 stretch a [] sum calm = tt
 stretch a (line ∷ older) sum calm = go (is_of a line) refl (is_end line) refl sum calm (stretch a older) (count a older)
   where
-    parts : (x y : Bool) → (x || y) ≡ false → (x ≡ false) × (y ≡ false)
-    parts x y h = (or_parts x y h)
-
     go : (mine : Bool) → is_of a line ≡ mine → (ends : Bool) → is_end line ≡ ends
         → length (log_before (works a line older mine ends) (line ∷ older)) + length (works a line older mine ends) ≡ suc (length older) → has tells_any_fault (works a line older mine ends) ≡ false
         → (length (log_before (work a older) older) + length (work a older) ≡ length older → has tells_any_fault (work a older) ≡ false → Stretch a (length (log_before (work a older) older)) older)
         → length (log_before (work a older) older) + length (work a older) ≤ length older
         → Stretch a (length (log_before (works a line older mine ends) (line ∷ older))) (line ∷ older)
     go true m true e sum calm rest few = no_stretch a (suc (length older)) (line ∷ older) (omega arith)
-    go true m false e sum calm rest few = (λ low. record { mine = m; within = e; fine = (parts _ _ calm).0 }, rest (omega (arith, sum)) (parts _ _ calm).1)
+    go true m false e sum calm rest few = (λ low. record { mine = m; within = e; fine = (or_parts _ _ calm).0 }, rest (omega (arith, sum)) (or_parts _ _ calm).1)
     go false m ends e sum calm rest few = elim (before_cases (work a older) line older) [
       | inl none ↦ subst (λ (w : Work). Stretch a (length (log_before w (line ∷ older))) (line ∷ older)) (sym none) (no_stretch a (suc (length older)) (line ∷ older) (omega arith))
       | inr same ↦ (let k = ap (λ (l : List Line). length l) same in absurd (omega (arith, k, sum, few)))
     ]
 
 -- ---- where the actor stands
-ends_place : (place : Place) (line : Line) → is_end line ≡ true → next_place place line ≡ Fresh
+pub ends_place : (place : Place) (line : Line) → is_end line ≡ true → next_place place line ≡ Fresh
 ends_place Fresh (End x reply) e = refl
 ends_place Indexed (End x reply) e = refl
 ends_place Between (End x reply) e = refl

@@ -1,7 +1,7 @@
 -- In a quiet round nobody else holds a Heal lock.
 use Rattle.std.proofs.Common.{◌≡◌, ℕ, suc, ◌<◌, ◌&&◌, ◌||◌, not, ◌==◌, Bool, true, false, ◌⊎◌, inl, inr, refl, sym, ◌∙◌, subst, ap, arith, List, [], ◌∷◌, ◌++◌, length, Option, Some, None, true≢false}
 use Rattle.std.specs.Prelude.{if◌then◌else◌}
-use Rattle.std.proofs.lemmas.Bool.{eqb-true}
+use Rattle.std.proofs.lemmas.Bool.{eqb-true, or_right}
 use Rattle.std.proofs.lemmas.Bool.Decides.{nat_tests}
 use Rattle.afr_base.specs.SetLemmas.{below_all}
 use Rattle.afr_base.specs.declared.ids.ActorId.{ActorId}
@@ -9,7 +9,7 @@ use Rattle.afr_base.specs.declared.ids.BrickId.{BrickId}
 use Rattle.afr_lines.specs.declared.fault.Fault.{Fault}
 use Rattle.afr_lines.specs.declared.fault.Fault.TheVariants.{Fail, Lost}
 use Rattle.afr_lines.specs.Overlap.{overlap}
-use Rattle.afr_lines.specs.Places.{Fresh, Place, Within, next_place, place_of, Indexed, Between}
+use Rattle.afr_lines.specs.Places.{Fresh, next_place, place_of}
 use Rattle.afr_lines.specs.Work.{is_end, is_killed, is_of, kills, work}
 use Rattle.afr_lines.specs.declared.answer.Told.TheVariants.{Granted, Held}
 use Rattle.afr_lines.specs.declared.line.Line.{Line}
@@ -40,34 +40,20 @@ use Rattle.afr_law_quiet.proofs.Lists.Cuts.{cut_of}
 use Rattle.afr_law_quiet.proofs.Lists.Lone.{lone}
 use Rattle.afr_law_quiet.proofs.Lists.Premises.{Sound, sound_before, sound_exactly, sound_honest}
 use Rattle.afr_law_quiet.proofs.Lists.Runs.{AreMine}
+use Rattle.afr_law_quiet.proofs.Copies.Stretch.{ends_place}
 
 -- ---- actors that are dead, or between works
-still_killed : (x : ℕ) (ls base : List Line) → is_killed x base ≡ true → is_killed x (ls ++ base) ≡ true
+pub still_killed : (x : ℕ) (ls base : List Line) → is_killed x base ≡ true → is_killed x (ls ++ base) ≡ true
 still_killed x [] base e = e
-still_killed x (line ∷ ls) base e = or_true (kills x line) (is_killed x (ls ++ base)) (still_killed x ls base e)
-  where
-    or_true : (k d : Bool) → d ≡ true → (k || d) ≡ true
-    or_true true d e = refl
-    or_true false d e = e
+still_killed x (line ∷ ls) base e = or_right (kills x line) (is_killed x (ls ++ base)) (still_killed x ls base e)
 
 -- who is between works stands at the beginning of one
 rests_fresh : (x : ℕ) (log : List Line) → work x log ≡ [] → place_of x log ≡ Fresh
 rests_fresh x [] e = refl
 rests_fresh x (line ∷ older) e = go (is_of x line) refl (λ k. rests_fresh x older k)
   where
-    over : (at : Place) (line : Line) → is_end line ≡ true → next_place at line ≡ Fresh
-    over Fresh (End y said) f = refl
-    over Indexed (End y said) f = refl
-    over Between (End y said) f = refl
-    over Within (End y said) f = refl
-    over at (Ask y z r told took) f = absurd (true≢false (sym f))
-    over at (Begin y change) f = absurd (true≢false (sym f))
-    over at (HealBegin y g kind) f = absurd (true≢false (sym f))
-    over at (HealEnd y g kind said) f = absurd (true≢false (sym f))
-    over at (Event event) f = absurd (true≢false (sym f))
-
     mine : (end : Bool) → is_end line ≡ end → is_of x line ≡ true → next_place (place_of x older) line ≡ Fresh
-    mine true f g = over (place_of x older) line f
+    mine true f g = ends_place (place_of x older) line f
     mine false f g = absurd (let k = sym (work_more x line older g f) ∙ e in cc k)
 
     go : (m : Bool) → is_of x line ≡ m → (work x older ≡ [] → place_of x older ≡ Fresh) → (if m then next_place (place_of x older) line else place_of x older) ≡ Fresh

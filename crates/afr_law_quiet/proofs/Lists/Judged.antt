@@ -3,7 +3,7 @@ use Rattle.std.proofs.Common.{◌≡◌, ℕ, zero, suc, ◌<◌, ◌≤◌, ◌
 use Rattle.std.specs.Prelude.{is_some, slice_index, if◌then◌else◌}
 use Rattle.std.specs.List.{list_all, list_any}
 use Rattle.std.specs.Option.{option_map}
-use Rattle.std.proofs.lemmas.Bool.{eqb-true, cases_lt}
+use Rattle.std.proofs.lemmas.Bool.{eqb-true, cases_lt, or_right}
 use Rattle.std.proofs.lemmas.Bool.Decides.{nat_tests}
 use Rattle.afr_base.specs.Bricks.{all_five, below, is_nothing, member}
 use Rattle.afr_base.specs.Keeping.{is_bytes, keeps}
@@ -49,10 +49,6 @@ all_at test (x ∷ xs) h b m = go (test x) refl (x == b) refl h m (λ k l. all_a
 all_if : (test : ℕ → Bool) (xs : List ℕ) → ((b : ℕ) → member xs b ≡ true → test b ≡ true) → list_all test xs ≡ true
 all_if test [] h = refl
 all_if test (x ∷ xs) h = rw (h x (let same : (x == x) ≡ true = grind (arith, nat_tests) in rw same refl)) (all_if test xs (λ b m. h b (or_right (x == b) (member xs b) m)))
-  where
-    or_right : (e f : Bool) → f ≡ true → (e || f) ≡ true
-    or_right true f m = refl
-    or_right false f m = m
 
 none_any : (test : ℕ → Bool) (xs : List ℕ) → ((b : ℕ) → test b ≡ false) → list_any test xs ≡ false
 none_any test [] h = refl

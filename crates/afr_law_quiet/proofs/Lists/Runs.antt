@@ -6,6 +6,7 @@ use Rattle.afr_lines.specs.Work.{Work, ended, ends_work, is_end, is_of, work}
 use Rattle.afr_lines.specs.declared.line.Line.{Line}
 use Rattle.afr_lines.specs.declared.line.Line.TheVariants.{Ask, Begin, End, Event, HealBegin, HealEnd}
 use Rattle.afr_model.specs.Safe.{log_before}
+use Rattle.afr_law_quiet.proofs.Copies.Stretch.{count}
 
 -- each of these lines is the actor's, and ends no work
 abbrev pub AreMine : ℕ → List Line → Type 0
@@ -25,21 +26,6 @@ works_are a (line ∷ ls) base mine rest = work_more a line (ls ++ base) mine.0.
 pub before_works : (ls base : List Line) → log_before (works ls base) (ls ++ base) ≡ base
 before_works [] base = refl
 before_works (line ∷ ls) base = before_works ls base
-
--- the lines of a work, and those before it, are no more than all
-low : (a : ℕ) (older : List Line) → length (log_before (work a older) older) + length (work a older) ≤ length older
-low a [] = omega arith
-low a (line ∷ older) = go (is_of a line) (is_end line) (low a older)
-  where
-    other : (w : Work) → length (log_before w older) + length w ≤ length older → length (log_before w (line ∷ older)) + length w ≤ suc (length older)
-    other [] h = omega arith
-    other (x ∷ w) h = omega (arith, h)
-
-    go : (mine over : Bool) → length (log_before (work a older) older) + length (work a older) ≤ length older
-        → length (log_before (if mine then (if over then [] else (line, older) ∷ work a older) else work a older) (line ∷ older)) + length (if mine then (if over then [] else (line, older) ∷ work a older) else work a older) ≤ suc (length older)
-    go true true h = omega arith
-    go true false h = omega (arith, h)
-    go false over h = other (work a older) h
 
 -- the log as lines of the actor after what was there before
 pub record Run (a : ℕ) (older : List Line) : Type 0 where
@@ -69,7 +55,7 @@ run a (line ∷ older) together = go (is_of a line) refl (is_end line) refl (λ 
     go : (mine : Bool) → is_of a line ≡ mine → (over : Bool) → is_end line ≡ over → (length (log_before (work a older) older) + length (work a older) ≡ length older → Run a older) → Run a (line ∷ older)
     go true e true f rest = rested a (line ∷ older) (work_ended a line older e f)
     go true e false f rest = (let k : length (log_before (work a older) older) + suc (length (work a older)) ≡ suc (length older) = rw (e, f) at together in more e f (rest (omega (arith, k))))
-    go false e over f rest = apart (work a older) refl e (low a older) (rw e at together)
+    go false e over f rest = apart (work a older) refl e (count a older) (rw e at together)
 
 -- no work ended in these lines
 ends_end : (a : ℕ) (line : Line) → is_end line ≡ false → ends_work a line ≡ false

@@ -1,7 +1,7 @@
 -- An object with a number above 0 is held by a majority: its pre-op came after looks that showed one.
-use Rattle.std.proofs.Common.{◌≡◌, ℕ, suc, ◌&&◌, ◌||◌, not, ◌==◌, Bool, true, false, inl, inr, refl, sym, ◌∙◌, subst, ap, Option, Some, None, true≢false}
+use Rattle.std.proofs.Common.{◌≡◌, ℕ, suc, ◌&&◌, ◌||◌, ◌==◌, Bool, true, false, inl, inr, refl, sym, ◌∙◌, subst, ap, Option, Some, None, true≢false}
 use Rattle.std.specs.Prelude.{if◌then◌else◌}
-use Rattle.std.proofs.lemmas.Bool.{eqb-true}
+use Rattle.std.proofs.lemmas.Bool.{eqb-true, not-true}
 use Rattle.afr_base.specs.Majority.{IsMajority, is_most}
 use Rattle.afr_base.specs.declared.ids.Kind.{Kind}
 use Rattle.afr_lines.specs.declared.fault.Fault.{Fault}
@@ -53,12 +53,8 @@ views_outside n r b (Lock Work area) told free old new most = go (busy n r.law) 
     go true e = most
     go false e = absurd (new (lock_number n r.law b area told e))
 views_outside n r b (Lock Heal area) told free old new most = absurd (free tt)
-views_outside n r b (Look g) told free old new most = go ((r.law.number == 0) && r.law.held b && is_on r.law.area g.0) (begun (r.law.number == 0) (no (r.law.number == 0) (some_number r.law.number old)))
+views_outside n r b (Look g) told free old new most = go ((r.law.number == 0) && r.law.held b && is_on r.law.area g.0) (begun (r.law.number == 0) (not-true (r.law.number == 0) (some_number r.law.number old)))
   where
-    no : (x : Bool) → not x ≡ true → x ≡ false
-    no true e = absurd (true≢false (sym e))
-    no false e = refl
-
     begun : (x : Bool) → x ≡ false → (x && r.law.held b && is_on r.law.area g.0) ≡ false
     begun true e = absurd (true≢false e)
     begun false e = refl

@@ -12,9 +12,8 @@ use Rattle.afr_object.specs.declared.entry.Entry.{Entry}
 use Rattle.afr_object.specs.Bytes.{copied_in}
 use Rattle.afr_lines.specs.declared.fault.Fault.{Fault}
 use Rattle.afr_lines.specs.declared.fault.Fault.TheVariants.{Fail, Lost}
-use Rattle.afr_object.specs.Repairs.{merged, renamed}
+use Rattle.afr_object.specs.Repairs.{merged, renamed, with_attrs}
 use Rattle.afr_object.specs.Tables.{Table, changed, copy_at, view_of as view_of_copy, with_bytes, with_numbers}
-use Rattle.afr_object.specs.Repairs.{with_attrs}
 use Rattle.afr_object.specs.declared.change.Repair.TheVariants.{Copy, CutTo, PutAttrs, PutNames}
 use Rattle.afr_object.specs.declared.entry.View.{View}
 use Rattle.afr_object.specs.Object.{Object}

@@ -48,7 +48,7 @@ len_is : (v : Option View) → len_in v ≡ len_of v
 len_is None = refl
 len_is (Some view) = refl
 
-none_against : (k : ℕ) → not (not (k == 0)) ≡ true → k ≡ 0
+pub none_against : (k : ℕ) → not (not (k == 0)) ≡ true → k ≡ 0
 none_against k e = grind (arith, nat_tests)
 
 module _ (p : Plan) (a : ℕ) (older : List Line) (r : Exact) (t : Tally) (few : p.shape.n ≤ 5) (bytes : r.law.kind ≡ Bytes) (k : KeptIn p older r) (none : IsAbsent p a older r.law.object r.first_reached r.first_views) (raised : RaisesIn p.shape.n (kept_by p) r r.law t)

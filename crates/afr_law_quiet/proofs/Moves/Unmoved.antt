@@ -51,7 +51,7 @@ none_passes p (x ∷ xs) h = (
     rw off rest
     )
 
-not_below : (k : ℕ) → k ≡ 0 → nat_lt 0 k ≡ false
+pub not_below : (k : ℕ) → k ≡ 0 → nat_lt 0 k ≡ false
 not_below k e = grind (arith, nat_tests)
 
 more_than : (k : ℕ) → nat_lt 1 k ≡ true → 1 < k

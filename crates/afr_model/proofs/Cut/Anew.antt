@@ -1,6 +1,7 @@
 -- Folds that begin anew at some line don't see what is before it.
 use Rattle.std.proofs.Common.{◌≡◌, ℕ, ◌||◌, Bool, true, false, List, [], ◌∷◌, ◌++◌, refl, sym, ◌∙◌, ap, Option, true≢false}
 use Rattle.afr_base.specs.declared.ids.Gfid.{Gfid}
+use Rattle.afr_base.proofs.TestLemmas.{or_second, neither_second, neither_first}
 use Rattle.afr_choice.specs.declared.looked.Looked.{Looked}
 use Rattle.afr_object.specs.declared.change.Change.{Change}
 use Rattle.afr_lines.specs.Log.{change_of}
@@ -13,9 +14,6 @@ use Rattle.afr_model.specs.Showing.{among, applied_at, applying, begins_attempt,
 use Rattle.afr_model.specs.Standing.{change_after, change_by}
 
 -- ---- tests of a whole work
-or_left : (a b : Bool) → a ≡ false → (a || b) ≡ true → b ≡ true
-or_left true b e h = absurd (cc e)
-or_left false b e h = h
 
 -- a line of two lists is in one of them
 pub has_first : (test : Line → Bool) (s t : Work) → has test t ≡ false → has test (s ++ t) ≡ true → has test s ≡ true
@@ -36,7 +34,7 @@ same_fold test step fold unfolds anew (x ∷ s) u t h = unfolds x (s ++ u) ∙ g
   where
     go : (passes : Bool) → test x.0 ≡ passes → (has test s ≡ true → fold (s ++ u) ≡ fold (s ++ t)) → step x.0 x.1 (fold (s ++ u)) ≡ step x.0 x.1 (fold (s ++ t))
     go true e rest = anew x.0 x.1 (fold (s ++ u)) (fold (s ++ t)) e
-    go false e rest = ap (step x.0 x.1) (rest (or_left (test x.0) (has test s) e h))
+    go false e rest = ap (step x.0 x.1) (rest (or_second (test x.0) (has test s) e h))
 
 -- ---- the attempt
 begun_anew : (line : Line) (older : List Line) (s t : Option ℕ) → begins_attempt line ≡ true → begun_after line older s ≡ begun_after line older t
@@ -105,12 +103,4 @@ no_change line was e = refl
 
 pub unbegun_change : (s u : Work) → has begins_attempt s ≡ false → change_by (s ++ u) ≡ change_by u
 unbegun_change [] u e = refl
-unbegun_change (x ∷ s) u e = no_change x.0 (change_by (s ++ u)) (now (begins_attempt x.0) (has begins_attempt s) e) ∙ unbegun_change s u (before (begins_attempt x.0) (has begins_attempt s) e)
-  where
-    now : (a b : Bool) → (a || b) ≡ false → a ≡ false
-    now true b h = h
-    now false b h = refl
-
-    before : (a b : Bool) → (a || b) ≡ false → b ≡ false
-    before true b h = absurd (true≢false h)
-    before false b h = h
+unbegun_change (x ∷ s) u e = no_change x.0 (change_by (s ++ u)) (neither_first (begins_attempt x.0) (has begins_attempt s) e) ∙ unbegun_change s u (neither_second (begins_attempt x.0) (has begins_attempt s) e)

@@ -2,6 +2,7 @@
 use Rattle.std.proofs.Common.{◌≡◌, ℕ, ◌+◌, ◌-◌, ◌≤◌, ◌&&◌, ◌||◌, nat_le, Bool, true, false, List, [], ◌∷◌, ◌++◌, length, refl, sym, ap, ◌∙◌, arith, if◌then◌else◌, true≢false}
 use Rattle.std.proofs.lemmas.Bool.Decides.{nat_tests}
 use Rattle.afr_base.specs.declared.ids.NameId.{NameId}
+use Rattle.afr_base.proofs.TestLemmas.{neither_second}
 use Rattle.afr_lines.specs.Work.{Work}
 use Rattle.afr_lines.specs.declared.line.Line.{Line}
 use Rattle.afr_model.specs.Parts.{after_names, first_part, is_again, names_asked, second_part, the_make, the_removal, the_walk, unlocks_any, upto_names}
@@ -58,17 +59,13 @@ names_whole k (x ∷ w) = go (nat_le k (names_asked w)) (names_whole k w)
     go true e = ap (λ (v : Work). x ∷ v) e
     go false e = refl
 
-or_none : (a b : Bool) → (a || b) ≡ false → b ≡ false
-or_none true b h = absurd (true≢false h)
-or_none false b h = h
-
 -- what no line up to a name is, no line up to an earlier one is
 upto_none : (test : Line → Bool) (k : ℕ) (w : Work) → has test w ≡ false → has test (upto_names k w) ≡ false
 upto_none test k [] e = refl
 upto_none test k (x ∷ w) e = go (nat_le k (names_asked w)) (λ h. upto_none test k w h)
   where
     go : (late : Bool) → (has test w ≡ false → has test (upto_names k w) ≡ false) → has test (if late then upto_names k w else x ∷ w) ≡ false
-    go true rest = rest (or_none (test x.0) (has test w) e)
+    go true rest = rest (neither_second (test x.0) (has test w) e)
     go false rest = e
 
 pub earlier_none : (test : Line → Bool) (j k : ℕ) (w : Work) → j ≤ k → has test (upto_names k w) ≡ false → has test (upto_names j w) ≡ false
@@ -82,7 +79,7 @@ earlier_none test j k (x ∷ w) low e = go (nat_le k (names_asked w)) refl (nat_
         → (has test (upto_names k w) ≡ false → has test (upto_names j w) ≡ false) → has test (if soon then upto_names j w else x ∷ w) ≡ false
     go true f true g h rest = rest h
     go true f false g h rest = absurd (both (names_asked w) f g)
-    go false f true g h rest = upto_none test j w (or_none (test x.0) (has test w) h)
+    go false f true g h rest = upto_none test j w (neither_second (test x.0) (has test w) h)
     go false f false g h rest = h
 
 -- ---- by the transactions
@@ -110,7 +107,7 @@ no_second x [] e = refl
 no_second x (y ∷ w) e = go (is_again y.0 w) refl
   where
     go : (again : Bool) → is_again y.0 w ≡ again → (if again then y ∷ second_part w else []) ≡ []
-    go true f = absurd (true≢false (sym f ∙ or_none (locks_any x && has unlocks_any (y ∷ w)) (is_again y.0 w) e))
+    go true f = absurd (true≢false (sym f ∙ neither_second (locks_any x && has unlocks_any (y ∷ w)) (is_again y.0 w) e))
     go false f = refl
 
 -- the second transaction's lines come after the first's

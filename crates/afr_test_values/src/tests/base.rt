@@ -5,9 +5,9 @@ use std::test::Fail;
 #[test]
 fn two_of_three_are_a_majority_and_two_of_five_are_not(rt: HostRuntime) {
     let two = BrickSet::all(2);
-    assert!(rt; two.has_majority(3));
-    assert!(rt; !two.has_majority(5));
-    assert!(rt; two.with(BrickId(4)).has_majority(5));
+    assert!(rt; two.has_quorum(3));
+    assert!(rt; !two.has_quorum(5));
+    assert!(rt; two.with(BrickId(4)).has_quorum(5));
     assert!(rt;
         !BrickSet::none()
             .with(BrickId(4))

@@ -2,7 +2,7 @@
 ghost use Rattle.std.specs.Prelude.{◌<◌, ◌≤◌, length};
 
 use afr_base::{AllMarks, BrickId, BrickSet, Kind, Marks, Shape, What};
-use afr_choice::{Looked, Verdict, good, holders, judge, majority};
+use afr_choice::{Looked, Verdict, good, holders, judge};
 use afr_object::View;
 
 /// A look at a brick: it doesn't answer, lacks the object, or has these data numbers.
@@ -163,11 +163,4 @@ fn the_arbiter_holds_attributes_and_data_numbers_are_of_data_alone(rt: HostRunti
     assert!(rt; holders(&seen) == two);
     assert!(rt; good(&three(true), &seen, Kind::Attrs) == two);
     assert!(rt; good(&three(false), &seen, Kind::Bytes) == BrickSet::all(1));
-}
-
-#[test]
-fn a_majority_is_more_than_half(rt: HostRuntime) {
-    for (n, least) in [(1u8, 1u8), (2, 2), (3, 2), (4, 3), (5, 3)] {
-        assert!(rt; majority(n) == least, "of {n}");
-    }
 }

@@ -1,6 +1,7 @@
 -- What was found, or that the check is past its limit, told to its end or cut off.
 use Rattle.std.proofs.Common.{◌∙◌, ap, drop}
-use Rattle.afr_cli.proofs.CheckLemmas.{few_bricks, has_few_actors, has_status, not_five, stops_at_limit, stops_found, tells_found, tells_limit, within}
+use Rattle.afr_cli.proofs.CheckLemmas.{has_few_actors, has_status, not_five, stops_at_limit, stops_found, tells_found, tells_limit, within}
+use Rattle.afr_law_runnable.proofs.SpelledLemmas.{few_bricks}
 use Rattle.afr_cli.proofs.checking.check_traced.Goals as goal
 
 pub check-requires-clause-shape : goal.check-requires-clause-shape

@@ -1,7 +1,6 @@
-use Rattle.std.proofs.Common.{refl, arith}
+use Rattle.std.proofs.Common.{refl, arith, ◌<◌, length}
 use Rattle.afr_servers.proofs.EventLemmas.{event_all, event_more}
 use Rattle.afr_servers.proofs.PlaceLemmas.{read_at}
-use Rattle.std.proofs.Common.{◌<◌, length}
 use Rattle.afr_servers.proofs.events.each_event.Goals as goal
 
 pub loop-b-preserved : goal.loop-b-preserved

@@ -1,8 +1,9 @@
 use Rattle.std.proofs.Common.{refl, arith, ◌∙◌, reverse, take, sym, ap}
 use Rattle.afr_lines.specs.Work.{work}
 use Rattle.afr_model.specs.Showing.{begun_after, begun_by}
-use Rattle.afr_trace_check.proofs.WorkLemmas.{length_before, whole, work_next}
+use Rattle.afr_trace_check.proofs.WorkLemmas.{whole, work_next}
 use Rattle.afr_trace_follow.proofs.PartLemmas.{work_from}
+use Rattle.afr_trace_follow.proofs.LogLemmas.{length_before}
 use Rattle.afr_trace_check.proofs.blamed.begun_by.Goals as goal
 
 pub loop-position-init : goal.loop-position-init

@@ -1,6 +1,7 @@
 use Rattle.std.proofs.Common.{arith, ◌∙◌, reverse, take}
 use Rattle.afr_trace_check.specs.Works.{last_list}
-use Rattle.afr_trace_check.proofs.WorkLemmas.{length_before, list_next, whole}
+use Rattle.afr_trace_check.proofs.WorkLemmas.{list_next, whole}
+use Rattle.afr_trace_follow.proofs.LogLemmas.{length_before}
 use Rattle.afr_trace_check.proofs.showing.last_list.Goals as goal
 
 pub loop-position-preserved : goal.loop-position-preserved

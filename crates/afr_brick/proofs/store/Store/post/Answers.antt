@@ -1,4 +1,5 @@
 use Rattle.std.proofs.Common.{◌≡◌, ◌∙◌, Some, ap, sym}
+use Rattle.std.proofs.lemmas.Bool.{not-true}
 use Rattle.afr_base.specs.Marks.{closed_op}
 use Rattle.afr_object.specs.Indexed.{index_of}
 use Rattle.afr_object.specs.Object.{Object}
@@ -6,7 +7,7 @@ use Rattle.afr_object.specs.Tables.{copy_at, with_numbers}
 use Rattle.afr_brick.proofs.Found.{found}
 use Rattle.afr_brick.proofs.IndexLemmas.{index_of-with_copy}
 use Rattle.afr_brick.proofs.Made.{copies}
-use Rattle.afr_brick.proofs.OpenLemmas.{open_kind, said_no}
+use Rattle.afr_brick.proofs.OpenLemmas.{open_kind}
 use Rattle.afr_brick.proofs.PlacesLemmas.{copy_read, copy_written}
 use Rattle.afr_brick.proofs.store.Store.post.Goals as goal
 
@@ -34,7 +35,7 @@ returns-clause-index c =
     let r = rw e at c.requires in
     rw (← c.self.view_is)
     (λ yes. ap index_of (c.in-Some.ensures.written c.post.new.self)
-    ∙ index_of-with_copy c.args.g c.post.new.self c.index_mut-object.result.now _ (copy_read c.args.g c.index_mut-object.result.now c.self.inside.objects.items c.self.inside.places.entries c.self.inside.shortcuts c.in-Some.place c.in-Some.ensures c.index_mut-object.ensures.value) (sym c.is_clean.ensures ∙ said_no c.is_clean.result yes ∙ sym (open_kind c.args.kind c.index_mut-object.result.now.marks r.0)) (ap (λ (o : Object). o.what) c.post.ensures))
+    ∙ index_of-with_copy c.args.g c.post.new.self c.index_mut-object.result.now _ (copy_read c.args.g c.index_mut-object.result.now c.self.inside.objects.items c.self.inside.places.entries c.self.inside.shortcuts c.in-Some.place c.in-Some.ensures c.index_mut-object.ensures.value) (sym c.is_clean.ensures ∙ not-true c.is_clean.result yes ∙ sym (open_kind c.args.kind c.index_mut-object.result.now.marks r.0)) (ap (λ (o : Object). o.what) c.post.ensures))
 
 pub invariant_of-self : goal.invariant_of-self
 invariant_of-self c = c.in-Some.ensures.kept c.post.new.self

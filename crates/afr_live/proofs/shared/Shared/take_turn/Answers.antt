@@ -1,14 +1,15 @@
 -- What a turn tells of locks is noted, and the work that its line ends is counted.
 use Rattle.std.proofs.Common.{◌∙◌, ◌<◌}
 use Rattle.afr_live.proofs.EndLemmas.{takes_turn}
-use Rattle.afr_live.proofs.NotedLemmas.{low_actor, turn_eager, turn_noted}
+use Rattle.afr_live.proofs.NotedLemmas.{turn_eager, turn_noted}
 use Rattle.afr_volume.proofs.GoingLemmas.{turn_goes}
+use Rattle.afr_law_bound.proofs.Standstill.Standing.{actor_low}
 use Rattle.afr_live.proofs.shared.Shared.take_turn.Goals as goal
 
 pub note-requires : goal.note-requires
 note-requires g c =
     let same = (turn_goes c.args.a c.come_due.new.self.volume c.turn.new.self c.in_ok-turned.turned c.in_ok-turned.ensures.ok).plan ∙ c.come_due.new.self.planned in
-    low_actor g.J.Run.plan c.args.a.0 (rw same at c.every_line.ensures.clients) (rw same at c.every_line.ensures.healers) c.requires.actor
+    actor_low g.J.Run.plan c.args.a.0 (rw same at c.every_line.ensures.clients) (rw same at c.every_line.ensures.healers) c.requires.actor
 
 pub count-requires-clause-counted : goal.count-requires-clause-counted
 count-requires-clause-counted g c = (c.come_due.new.self.volume, c.in_ok-turned.ensures.ok, c.come_due.new.self.counted)
@@ -16,7 +17,7 @@ count-requires-clause-counted g c = (c.come_due.new.self.volume, c.in_ok-turned.
 pub invariant_of-self-2 : goal.invariant_of-self-2
 invariant_of-self-2 g c =
     let same = (turn_goes c.args.a c.come_due.new.self.volume c.turn.new.self c.in_ok-turned.turned c.in_ok-turned.ensures.ok).plan ∙ c.come_due.new.self.planned in
-    let low : c.args.a.0 < 20 = low_actor g.J.Run.plan c.args.a.0 (rw same at c.every_line.ensures.clients) (rw same at c.every_line.ensures.healers) c.requires.actor in
+    let low : c.args.a.0 < 20 = actor_low g.J.Run.plan c.args.a.0 (rw same at c.every_line.ensures.clients) (rw same at c.every_line.ensures.healers) c.requires.actor in
     record {
       planned = same;
       plain = (turn_goes c.args.a c.come_due.new.self.volume c.turn.new.self c.in_ok-turned.turned c.in_ok-turned.ensures.ok).crawl ∙ c.come_due.new.self.plain;
