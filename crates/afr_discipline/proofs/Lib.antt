@@ -1,10 +1,10 @@
 mod StandsLemmas
-mod Decides
-mod Decisions
+pub mod Decides
+pub mod Decisions
 mod HealDecisions
 mod SetsOfFive
 mod AllowedLemmas
-mod FirstLemmas
+pub mod FirstLemmas
 mod LeftLemmas
 mod NotedLaw
 mod NotedShape

@@ -1,4 +1,4 @@
-mod ChoiceLemmas
+pub mod ChoiceLemmas
 pub mod FoundLemmas
 mod HearLemmas
 mod NotedLemmas

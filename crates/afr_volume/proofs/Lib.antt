@@ -9,7 +9,7 @@ mod TaskSteps
 mod TaskTurn
 pub mod TaskDone
 mod TaskBegins
-mod ListLemmas
+pub mod ListLemmas
 mod Opening
 mod ReadyLemmas
 mod Runs
