@@ -29,7 +29,6 @@ module _ (left left' : Option (List ℕ)) (bytes part : List ℕ) (len : ℕ) (r
   is_faulty_part fault (first, none) = inl (record { bytes = bytes; len = len; read = read; part = whole; first = rw front at first; none = rw front at none })
 
 -- ---- what is said of it
-
 pub has_few_actors : (plan : Plan) → IsRunnable plan → HasFewActors plan
 has_few_actors plan can = record { clients = can.clients; healers = can.healers }
 

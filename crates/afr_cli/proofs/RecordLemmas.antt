@@ -24,7 +24,6 @@ unfolding image_text
 image_is p log q steps plan made = ap (λ (r : Plan). bytes_with (plan_text r) steps) plan ∙ ap (bytes_with (plan_text p)) made
 
 -- ---- read again
-
 -- an image is one of each replay that has turns for its steps
 for_turns : (i : Image) (turns : ℕ) → IsImage None i → length i.steps ≤ turns → IsImage (Some turns) i
 for_turns i turns h enough = record {

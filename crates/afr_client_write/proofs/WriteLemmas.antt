@@ -110,7 +110,6 @@ pub allowed_next : AllowedNext
 allowed_next m k at = allowed_at m.stage m.walk k at
 
 -- ---- what is heard
-
 told_sound : (w : Walk) (t : TransactionProgress) (told : Told) (at : ℕ) → IsStage w (Changing t) → is_over (Changing t) ≡ false → IsStage w (Changing (told_to told at t))
 told_sound w t told at k more = go (is_beginning t.stage)
   where

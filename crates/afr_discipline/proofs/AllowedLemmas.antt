@@ -22,7 +22,6 @@ use Rattle.afr_discipline.specs.Stands.{seen_as}
 use Rattle.afr_discipline.specs.declared.register.Register.{Register}
 
 -- ---- sets of one brick
-
 -- a set with a brick counts one at least
 count_one : (n : ℕ) (p : ℕ → Bool) (s : ℕ) → s < n → p s ≡ true → 1 ≤ count_below n p
 count_one zero p s l h = absurd (omega arith)
@@ -62,7 +61,6 @@ one_member p one s t small low hs ht =
     ]
 
 -- ---- who allows a request
-
 module _ (n : ℕ) (keeps : ℕ → Kind → Bool) (r : Exact) (b : ℕ) (request : Request) where
   -- each source that is possible, where all are alike
   alike_allows : IsAlike keeps r request → any n (allows n keeps r b request) ≡ true → (s : ℕ) → allows n keeps r b request s ≡ r.possible s

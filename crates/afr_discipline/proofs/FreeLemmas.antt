@@ -73,7 +73,6 @@ pub free_here : (shape : Shape) (r : Register) → IsFree shape r → IsFree r.s
 free_here shape r free = subst (λ (s : Shape). IsFree s r) (sym (shape_is shape r free)) free
 
 -- ---- what is allowed
-
 free_outside : (shape : Shape) (r : Register) (b : ℕ) (request : Request) → is_free request ≡ true → may_ask_outside shape.n (keeps_in shape) (seen_as r) b request ≡ true
 free_outside shape r b (Look g) h = refl
 free_outside shape r b (ReadName g name) h = refl

@@ -66,7 +66,6 @@ first_opens : (at : Place) (g : ℕ) (a : ActorId) (b : BrickId) (asked : Reques
 first_opens at g a b asked told took k e = subst (λ (q : Request). opens at (Ask a b q told took) ≡ true) e (lock_opens at g a b told took k)
 
 -- ---- the index may be asked for before any line
-
 index_allowed : (shape : Shape) (b : BrickId) → b.0 < shape.n → AllowsAsk (no_lines shape) b Index
 index_allowed shape b low (move.Ask asked of) is = rw (is.0, is.1, lt-ltb b.0 shape.n low) refl
 index_allowed shape b low (move.Begin change) is = absurd is

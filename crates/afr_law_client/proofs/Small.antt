@@ -30,7 +30,6 @@ pub same_gfid : (g h : Gfid) → (g.0 == h.0) ≡ true → g ≡ h
 same_gfid g h e = ap (λ (n : ℕ). let x : Gfid = record { 0 = n } in x) (eqb-true g.0 h.0 e)
 
 -- ---- areas
-
 pub object_named : (c : Change) → object_of_area (area_for c) ≡ object_of c
 object_named (change.Write g at bytes) = refl
 object_named (change.Cut g len) = refl

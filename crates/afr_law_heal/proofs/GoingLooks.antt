@@ -31,7 +31,6 @@ use Rattle.afr_model_moves.proofs.Tests.{some_yes, all_yes}
 use Rattle.afr_object.specs.declared.entry.View.{View}
 
 -- ---- lists
-
 pub and_false : (m : Bool) → (m && false) ≡ false
 and_false true = refl
 and_false false = refl

@@ -12,7 +12,6 @@ use Rattle.afr_model_moves.proofs.Tests.{same_self}
 use Rattle.afr_model_moves.specs.Steps.{is_lowest}
 
 -- ---- tests
-
 -- of a half that is off
 pub or_last : (a f l : Bool) → (a || ((f && false) && l)) ≡ true → a ≡ true
 or_last true f l h = refl

@@ -99,7 +99,6 @@ may_begin kept p log a change r few five k may range known =
     comes p log a (Begin a change) _ turn.lawful range known (record { own = turn.own; others = turn.others })
 
 -- ---- an End
-
 ends_fresh : (at : Place) (a : ActorId) (said : Reply) → next_place at (End a said) ≡ Fresh
 ends_fresh Fresh a said = refl
 ends_fresh Indexed a said = refl

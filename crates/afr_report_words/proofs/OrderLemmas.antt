@@ -122,7 +122,6 @@ one_order (s ∷ l) (t ∷ m) a b same = by (precedes s t) (precedes t s) refl r
     by false q h k more = absurd (omega (arith, same t, counted_itself t m, counted_ahead t s l h a))
 
 -- ---- a sorted list
-
 rest_sorted : {X : Type 0} (lt : X → X → Bool) (x : X) (l : List X) → IsSortedBy lt (x ∷ l) → IsSortedBy lt l
 rest_sorted lt x l h k d low high = at (k + 1) (omega arith) (h (k + 1) d (omega arith) (omega (arith, high)))
   where

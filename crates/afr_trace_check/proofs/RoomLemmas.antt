@@ -41,7 +41,6 @@ use Rattle.afr_trace_tally.specs.Room.{CanAsk, HasRoom}
 use Rattle.afr_trace_tally.proofs.TableLemmas.{bytes_past}
 
 -- ---- commands
-
 no_long_client : (clients : List (List Command)) (k : ℕ) → list_any has_long clients ≡ false → has_long (get_or clients k []) ≡ false
 no_long_client [] k h = refl
 no_long_client (x ∷ xs) zero h = (or_parts (has_long x) (list_any has_long xs) h).0

@@ -12,13 +12,11 @@ use Rattle.afr_trace_follow.proofs.LogLemmas.{newest}
 use Rattle.afr_trace_follow.proofs.PartLemmas.{work_step}
 
 -- ---- the lines up to a position
-
 -- what holds of all of them
 pub whole : {A : Type 0} (F : List Line → A) (log : List Line) (at : ℕ) (x : A) → length log ≤ at → x ≡ F (reverse (take at log)) → x ≡ F (reverse log)
 whole F log at x long h = h ∙ ap (λ (t : List Line). F (reverse t)) (take_all at log long)
 
 -- ---- a work
-
 -- what each line of a work makes of what the lines before it made
 pub work_next : {A : Type 0} (F : Work → A) (f : Line → List Line → A → A) → ((line : Line) (older : List Line) (w : Work) → F ((line, older) ∷ w) ≡ f line older (F w)) → (a : ℕ) (log : List Line) (at : ℕ) (line : Line) (was : A)
     → at < length log → line ≡ get_or log at line → was ≡ F (work a (reverse (take at log)))

@@ -67,7 +67,6 @@ pub same_join : (a x : ActorId) (b y : BrickId) → ((x ≡ a) × (y ≡ b) → 
 same_join a x b y = (λ k. rw (k.0, k.1) refl, λ e. (cc, cc))
 
 -- ---- actors
-
 pub actor_is : (p : Plan) (a : ℕ) → is_actor p a ≡ true → IsActor p a
 actor_is p a h = by (or_cases (nat_le 1 a && nat_le a (length p.clients)) (nat_le 17 a && nat_le a (16 + length p.healers)) h)
   where

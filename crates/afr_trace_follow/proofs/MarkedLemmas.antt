@@ -53,7 +53,6 @@ kind_is p log b g o e = ap (λ (x : Option View). option_map (λ (v : View). v.w
     by (Some x) = refl
 
 -- ---- a number above 0 was raised
-
 -- what a line about another object counts
 not_counted : (took here same kind there : Bool) (n : ℕ) → same ≡ false → (if took && here && same && kind && there then n else 0) ≡ 0
 not_counted true true same kind there n e = rw e refl

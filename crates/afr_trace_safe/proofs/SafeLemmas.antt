@@ -77,7 +77,6 @@ judged_before p l older g kind b out h =
     (more_most p.shape.n (λ x. not (accuses p (l ∷ older) g kind x b)) (λ x. not (accuses p older g kind x b)) (λ x m. quiet_before p l older g kind x b out m) t.3)
 
 -- ---- acknowledged attempts
-
 no_at : (q n : ℕ) → nat_lt q n ≡ true → (q == n) ≡ false
 no_at q n h = grind (arith, nat_tests, h)
 

@@ -56,7 +56,6 @@ listed_at (x ∷ xs) n h = by (x.0 == n) refl h (listed_at xs n)
     by false e k more = let r = more k in (suc r.0, r.1, r.2, r.3)
 
 -- ---- what a brick has
-
 pub has_plain : (p : Plan) (log : List Line) (g : Gfid) (b : ℕ) → is_some (copy_at g ((plain_tables p log).now b)) ≡ has_object p log g b
 has_plain p log g b = ap (λ (t : Table). is_some (copy_at g t)) (now_bare p log b) ∙ ap (λ (o : Option Object). is_some o) (copy_bare g (holds p log b)) ∙ there_bare (copy_at g (holds p log b))
 

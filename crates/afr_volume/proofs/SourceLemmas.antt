@@ -129,7 +129,6 @@ client_turn crawl picks a old new Ended small h follows k = subst (HealsChosen p
 client_turn crawl picks a old new Full small h follows k = subst (HealsChosen picks) (sym h.2) k
 
 -- ---- a healer's line leaves the sources of the other healers
-
 pub healer_others : {crawl : Bool} (Hears : Hearing) (p : Plan) (a : ActorId) (at : ℕ) (healers readied new : List Healer) (bricks after : List Serving) (line : Line) → 17 ≤ a.0 → ReadiedHealerAt crawl p a.0 healers readied → StepsHealerAt Hears a at readied new bricks after line
     → (i : ℕ) → (17 + i ≡ a.0 → ⊥) → slice_get (sources_of new) i ≡ slice_get (sources_of healers) i
 healer_others Hears p a at healers readied new bricks after line low r s i other =

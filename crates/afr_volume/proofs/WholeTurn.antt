@@ -42,7 +42,6 @@ use Rattle.afr_base.specs.declared.ids.What.{What}
 use Rattle.afr_volume.specs.Tasks.{is_done_in}
 
 -- ---- the premises
-
 pub not_killed : (p : Plan) (a : ℕ) (log : List Line) → is_done p a log ≡ false → is_killed a log ≡ false
 not_killed p a log h = (or_parts (is_killed a log) _ h).0
 

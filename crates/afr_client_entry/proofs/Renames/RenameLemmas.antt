@@ -176,7 +176,6 @@ is_after_first x k = go x.first.step refl
     go (walking.Stopped why) e = tt
 
 -- ---- the turn
-
 pub over_not_done : (o d : Bool) → (o && not d) ≡ false → d ≡ false → o ≡ false
 over_not_done true true e f = absurd (cc f)
 over_not_done true false e f = absurd (cc e)

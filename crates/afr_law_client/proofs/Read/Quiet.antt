@@ -101,7 +101,6 @@ plain_by n g [] few h = plain_none n
 plain_by n g (x ∷ w) few h = plain_line n g x.0 (looked_by g w) few h.0 (plain_by n g w few h.1)
 
 -- ---- a look more
-
 pub looked_more : (g : Gfid) (a : ActorId) (b : BrickId) (told : Told) (took : Bool) (log : List Line) (w : Work)
     → looked_by g ((Ask a b (Look g) told took, log) ∷ w) ≡ noted_look b.0 told (looked_by g w)
 looked_more g a b told took log w = rw same_number (look_shows_is b.0 told (looked_by g w))

@@ -61,8 +61,6 @@ use Rattle.afr_law_client.proofs.Read.LooksMore.{agree_first}
 use Rattle.afr_law_client.proofs.Read.Quiet.{begins_none, but_from_all}
 use Rattle.afr_discipline.proofs.Decides.{le_test}
 
--- ---- small facts
-
 -- ---- where a command stands whose whole path is walked
 pub rmdir_none : (c : Command) → is_on_name c ≡ false → is_rmdir c ≡ false
 rmdir_none (command.Rmdir path) h = absurd (cc h)

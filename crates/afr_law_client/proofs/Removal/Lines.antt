@@ -35,7 +35,6 @@ use Rattle.afr_law_client.specs.Removal.RemovalTelling.{AreSets, HasLed, Removal
 use Rattle.afr_law_client.proofs.Entry.Names.{upto_stays}
 
 -- ---- the path
-
 module _ (p : Plan) (path : List NameId) (dir child : Gfid) (older : List Line) (w : Work) (k : HasLed p path dir child w) where
   pub led_ask : (a : ActorId) (b : BrickId) (r : Request) (told : Told) (took : Bool) → (path_after p (Ask a b r told took) older (At (length path) (dir_at child)) ≡ At (length path) (dir_at child)) → HasLed p path dir child ((Ask a b r told took, older) ∷ w)
   led_ask a b r told took stays = record {

@@ -22,10 +22,7 @@ use Rattle.afr_model.specs.Standing.{getting, holding, locks_any, suffices, up_t
 use Rattle.afr_law_client.proofs.Views.{suffices_grows}
 use Rattle.afr_law_client.specs.Removal.RemovalTelling.{held_in}
 
--- ---- tests
-
 -- ---- sets
-
 -- the holders with both locks at the child's last line
 pub both_are : (area : Area) (g child : Gfid) (w : Work) (b : ℕ) → member (both_locked (Some area) g child w) b ≡ (held_in area (up_to (meets child) w) b && (held_in (Name child None) (up_to (meets child) w) b && member (holders_of (looked_by g w)) b))
 both_are area g child w b =

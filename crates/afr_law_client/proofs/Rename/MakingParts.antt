@@ -84,7 +84,6 @@ changed_front (x ∷ s) u c e = go (λ f. changed_front s u c f) (change_of x.0)
     go rest (Some d) f = f
 
 -- ---- faults
-
 or_either : (P : Type 0) (a b : Bool) → (a || b) ≡ true → (a ≡ true → P) → (b ≡ true → P) → P
 or_either P true b e f g = f refl
 or_either P false b e f g = g e

@@ -47,7 +47,6 @@ use Rattle.afr_law_client.proofs.Rename.Cut.{path_upto_last}
 use Rattle.afr_law_client.proofs.Entry.Walks.{at_most, none_at}
 
 -- ---- where a path stands
-
 -- a name that leads on to what a walk stops at isn't the path's last
 stops_before : (read k : ℕ) (entry : Entry) (why : Stop) → read < k → step_at k (read + 1) entry ≡ Stopped why → read + 1 < k
 stops_before read k entry why l e = go (read + 1 == k) (eqb_tells (read + 1) k) e

@@ -80,7 +80,6 @@ led_after p a (Ask x b (ReadName dir name) told took) older path lawful own more
 led_after p a line older path lawful own more honest on k = still_led p a line older path on k
 
 -- ---- a work up to a name is a work
-
 -- after each line of the work
 led_upto : (p : Plan) (a : ℕ) (log : List Line) → LawfulBelow p (name_bound p) log → Honest p log → (k : ℕ) → IsLed p a log (path_by p (upto_names k (work a log)))
 led_upto p a [] lawful honest k = inl refl

@@ -26,7 +26,6 @@ use Rattle.afr_law_passes.specs.Rolling.Rolling.{AreIdle, FailsNowhere, IsEpoch,
 use Rattle.afr_law.proofs.Model.Cells.{below_length}
 
 -- ---- places in a log
-
 -- a line since the start, with the lines between
 record IsSince (R : Line → List Line → Type 0) (d : ℕ) (start : List Line) (line : Line) : Type 0 where
   mid : List Line

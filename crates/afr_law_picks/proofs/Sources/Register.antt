@@ -23,7 +23,6 @@ use Rattle.afr_heal_machine.specs.declared.outcome.HealOutcome.TheVariants.{Noth
 use Rattle.afr_law_picks.specs.Sources.Sources.{is_later}
 
 -- ---- the register
-
 within : (P : Register → Type 0) (c : Bool) (x y : Register) → c ≡ true → P x → P (if c then x else y)
 within P true x y e k = k
 within P false x y e k = absurd (cc e)

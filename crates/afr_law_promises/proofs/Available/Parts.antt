@@ -50,7 +50,6 @@ AreLines p c [] = Unit {0}
 AreLines p c (x ∷ w) = IsOf p c x.0 w × KeepsToCommand p c x.0 (length x.1) w × (is_end x.0 ≡ false) × AreLines p c w
 
 -- ---- tests
-
 or_first : (a b : Option Reply) → or_else a b ≡ None → a ≡ None
 or_first None b e = refl
 or_first (Some said) b e = absurd (cc e)

@@ -14,7 +14,6 @@ use Rattle.afr_model.specs.Showing.{among, applied_at, applying, begins_attempt,
 use Rattle.afr_model.specs.Standing.{change_after, change_by}
 
 -- ---- tests of a whole work
-
 -- a line of two lists is in one of them
 pub has_first : (test : Line → Bool) (s t : Work) → has test t ≡ false → has test (s ++ t) ≡ true → has test s ≡ true
 has_first test [] t none h = absurd (true≢false (sym h ∙ none))
