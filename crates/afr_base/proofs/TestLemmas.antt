@@ -22,12 +22,12 @@ or_more true b c more e = refl
 or_more false b c more e = more e
 
 pub or_second : (a b : Bool) → a ≡ false → (a || b) ≡ true → b ≡ true
-or_second true b no e = absurd (cc no)
-or_second false b no e = e
+or_second true b off e = absurd (cc off)
+or_second false b off e = e
 
 pub or_first : (a b : Bool) → b ≡ false → (a || b) ≡ true → a ≡ true
-or_first true b no e = refl
-or_first false b no e = absurd (cc (no, e))
+or_first true b off e = refl
+or_first false b off e = absurd (cc (off, e))
 
 pub neither_second : (a b : Bool) → (a || b) ≡ false → b ≡ false
 neither_second true b e = absurd (cc e)
