@@ -1,5 +1,6 @@
 //! One of a rename's transactions: under the locks of a name this is read before the change is begun.
 ghost use Rattle.std.specs.Prelude.{◌≡◌, ℕ, false, true, Some, None};
+ghost use Rattle.afr_base.specs.declared.ids.Kind.{Kind};
 ghost use Rattle.afr_lines.specs.Areas.{kind_for};
 ghost use Rattle.afr_client_entry.specs.Renames.Under.{IsUnder, choices_under, found_after, next_under, progress_after};
 ghost use Rattle.afr_rule.specs.Choosing.{IsRule};
