@@ -17,7 +17,6 @@ use Rattle.afr_law_tables.proofs.Opening.{opening_make}
 use Rattle.afr_law_tables.specs.Codes.{kind_code, kind_in}
 use Rattle.afr_model_moves.specs.Cells.{what_code}
 use Rattle.afr_law_bound.proofs.Circle.{In}
-use Rattle.afr_law_bound.proofs.Ends.Eager.{one_if}
 
 -- ---- at the start
 abbrev pub opening_numbers : ℕ → List ℕ
@@ -29,8 +28,11 @@ opening_count zero = refl
 opening_count (suc i) = (let h = opening_count i in omega (arith, h))
 
 pub opening_has : (i g k : ℕ) → kind_in (opening i) g ≡ suc k → In g (opening_numbers i)
-opening_has zero g k e = go (g == 1) refl (ap one_if (sym (same_gfid (record { 0 = g }) root)) ∙ e)
+opening_has zero g k e = go (g == 1) refl (ap of_test (sym (same_gfid (record { 0 = g }) root)) ∙ e)
   where
+    of_test : Bool → ℕ
+    of_test is = kind_code (if is then Some (new_object Dir) else None)
+
     go : (hit : Bool) → (g == 1) ≡ hit → kind_code (if hit then Some (new_object Dir) else None) ≡ suc k → (g ≡ 1) ⊎ ⊥
     go true h e = inl (eqb-true g 1 h)
     go false h e = absurd (omega (arith, e))
